@@ -14,3 +14,4 @@ pub mod WalkComes
 pub mod SlimComes
 pub mod MergeComes
 pub mod ProcwalkComes
+pub mod Processes

@@ -1,7 +1,6 @@
 -- Walks by the modules of a process come to one thing at most.
 use Rattle.std.specs.List.{AllZip}
 use Rattle.std.proofs.Common.{◌≡◌, ℕ, List, [], ◌∷◌, Option, Some, None, Result, Ok, Err, refl, ap, sym, subst, ◌∙◌}
-use Rattle.sf_bytes.specs.Cursor.{Cursor}
 use Rattle.sf_model.specs.declared.machine.Arch.{Arch}
 use Rattle.sf_model.specs.Section.{Section}
 use Rattle.sf_model.specs.Table.{Table}
@@ -11,22 +10,14 @@ use Rattle.elf_read.specs.Sections.{section_bytes}
 use Rattle.core_notes.specs.declared.fault.CoreFault.{CoreFault}
 use Rattle.sf_modules.specs.declared.fault.ModuleFault.{ModuleFault}
 use Rattle.sf_modules.specs.Entry.{EntryView}
-use Rattle.sf_modules.specs.Fault.{Check}
 use Rattle.sf_modules.specs.Match.{matching_entry}
 use Rattle.sf_modules.specs.Module.{ModuleView, loaded_address}
-use Rattle.sf_modules.specs.Note.{HasEntries, numbered_entries, file_entries_check, file_entry_count, names_part}
-use Rattle.sf_modules.specs.Process.{ProcessView, process_of}
+use Rattle.sf_modules.specs.Process.{ProcessView}
 use Rattle.sf_modules.specs.Union.{tables_of}
-use Rattle.sf_modules.proofs.NamesRead.{names_unique}
 use Rattle.section_commands.specs.Coming.{Coming}
-use Rattle.section_commands.specs.Procwalk.{EntriesCome, File, FilesCome, IsModuleOf, NoteComes, ProcwalkComesFrom, coming_of_modules, file_note, files_fault, mixed_item, modules_walks, sums_limit}
-
--- ---- the entries of the note
-one_note : (note : Option Cursor) (p q : ℕ) (es fs : List EntryView) → HasEntries note p es → HasEntries note q fs → (p ≡ q) × (es ≡ fs)
-one_note None p q es fs h i = absurd h
-one_note (Some note) p q es fs h i =
-    let names : h.names ≡ i.names = names_unique (file_entry_count note.left) (names_part note.left) h.names i.names h.names_are i.names_are in
-    (h.size ∙ sym i.size, h.are ∙ ap (numbered_entries note.left 0) names ∙ sym i.are)
+use Rattle.section_commands.specs.Process.{File, ProcessComes}
+use Rattle.section_commands.specs.Procwalk.{FilesCome, IsModuleOf, ProcwalkComesIn, coming_of_modules, files_fault, mixed_item, modules_walks, sums_limit}
+use Rattle.section_commands.proofs.Processes.{one_process}
 
 -- ---- the modules of files
 one_view : (m n : ModuleView) → m.name ≡ n.name → m.machine ≡ n.machine → m.table ≡ n.table → m ≡ n
@@ -69,18 +60,5 @@ one_from_files process depth files None c d p q =
     (one_list process files p.modules q.modules p.are q.are)
     ∙ sym q.is
 
-one_from_entries : (core : List ℕ) (depth : ℕ) (files : List File) (c d : Coming) → EntriesCome core depth files c → EntriesCome core depth files d → c ≡ d
-one_from_entries core depth files c d p q =
-    let same = one_note (file_note core) p.page q.page p.entries q.entries p.are q.are in
-    let one : process_of core p.page p.entries ≡ process_of core q.page q.entries =
-    ap (λ (page : ℕ). process_of core page p.entries) same.0 ∙ ap (process_of core q.page) same.1 in
-    one_from_files (process_of core q.page q.entries) depth files (files_fault (process_of core q.page q.entries) files) c d
-    (subst (λ (process : ProcessView). FilesCome process depth files (files_fault process files) c) one p.comes) q.comes
-
-one_from_note : (core : List ℕ) (depth : ℕ) (files : List File) (check : Check) (c d : Coming) → NoteComes core depth files check c → NoteComes core depth files check d → c ≡ d
-one_from_note core depth files (Err fault) c d p q = p ∙ sym q
-one_from_note core depth files (Ok u) c d p q = one_from_entries core depth files c d p q
-
-pub one_procwalk : (core : List ℕ) (depth : ℕ) (files : List File) (check : Result (Unit {0}) CoreFault) (c d : Coming) → ProcwalkComesFrom core depth files check c → ProcwalkComesFrom core depth files check d → c ≡ d
-one_procwalk core depth files (Err fault) c d p q = p ∙ sym q
-one_procwalk core depth files (Ok u) c d p q = one_from_note core depth files (file_entries_check (file_note core)) c d p q
+pub one_procwalk : (core : List ℕ) (depth : ℕ) (files : List File) (check : Result (Unit {0}) CoreFault) (c d : Coming) → ProcessComes core (ProcwalkComesIn depth files) check c → ProcessComes core (ProcwalkComesIn depth files) check d → c ≡ d
+one_procwalk core depth files = one_process core (ProcwalkComesIn depth files) (λ p c d. one_from_files p depth files (files_fault p files) c d)

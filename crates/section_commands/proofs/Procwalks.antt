@@ -5,18 +5,14 @@ use Rattle.std.proofs.Common.{◌≡◌, ℕ, ◌+◌, ◌<◌, ◌^◌, Bool, n
 use Rattle.std.proofs.lemmas.List.{length-map}
 use Rattle.std.proofs.lemmas.List.Elements.{All-nil, All-cons}
 use Rattle.elf_read.specs.Header.{arch_of}
-use Rattle.core_notes.specs.declared.fault.CoreFault.{CoreFault}
 use Rattle.core_notes.specs.Checks.{core_check}
 use Rattle.sf_modules.specs.declared.fault.ModuleFault.{ModuleFault}
-use Rattle.sf_modules.specs.declared.fault.ModuleFault.TheVariants.{NoFileNote, FileNote, Elf, NoSection, Segments, NotMapped, Mapping, Ambiguous, Build, Section, NoMemory}
 use Rattle.sf_modules.specs.Entry.{EntryView}
-use Rattle.sf_modules.specs.Fault.{Check, IsFaultOf}
 use Rattle.sf_modules.specs.Module.{ModuleView}
 use Rattle.sf_modules.specs.Note.{HasEntries, file_entries_check}
 use Rattle.sf_modules.specs.Process.{ProcessView, process_of}
 use Rattle.sf_modules.specs.Union.{tables_of}
 use Rattle.sf_words.specs.declared.refusal.Refusal.{Refusal}
-use Rattle.sf_words.specs.declared.refusal.Refusal.TheVariants as refusal
 use Rattle.sf_parts.specs.Read.{file_of}
 use Rattle.sf_words.specs.declared.loaded.Loaded.{Loaded}
 use Rattle.sf_words.specs.Loading.{bytes_limit, items_limit, loaded_bytes, loaded_items}
@@ -26,9 +22,11 @@ use Rattle.section_commands.specs.declared.made.Made.{Made}
 use Rattle.section_commands.specs.Coming.{Coming}
 use Rattle.section_commands.specs.FirstFault.{first_failing}
 use Rattle.section_commands.specs.Making.{ComesAs, ComesTo}
-use Rattle.section_commands.specs.Procwalk.{File, FilesCome, IsModuleOf, NoteComes, ProcwalkComesFrom, coming_of_module, coming_of_modules, module_file_check, file_note, files_fault, mixed_item, modules_walks, sums_limit}
+use Rattle.section_commands.specs.Process.{File, ProcessComes, coming_of_module, file_note}
+use Rattle.section_commands.specs.Procwalk.{FilesCome, IsModuleOf, ProcwalkComesIn, coming_of_modules, module_file_check, files_fault, mixed_item, modules_walks, sums_limit}
 use Rattle.section_commands.proofs.Lists.{as_many}
-use Rattle.section_commands.proofs.Making.{comes_as, memory_comes}
+use Rattle.section_commands.proofs.Making.{comes_as}
+use Rattle.section_commands.proofs.Processes.{comes_to, from_process}
 use Rattle.section_commands.proofs.Reading.{Reading, fault_step}
 
 -- ---- the first that passes
@@ -85,59 +83,19 @@ loaded_short name names (l ∷ ls) d h limit =
     all_short name (file_of l.read) names (loaded_bytes ls) count limit
 
 -- ---- what a core file and files come to
-pub fault_found : (check : Check) (fault : ModuleFault) → IsFaultOf check fault → (fault ≡ NoMemory) ⊎ (check ≡ Err fault)
-fault_found check NoMemory h = inl refl
-fault_found check NoFileNote h = inr h
-fault_found check (FileNote place) h = inr h
-fault_found check (Elf fault) h = inr h
-fault_found check NoSection h = inr h
-fault_found check (Segments place) h = inr h
-fault_found check NotMapped h = inr h
-fault_found check Mapping h = inr h
-fault_found check Ambiguous h = inr h
-fault_found check Build h = inr h
-fault_found check (Section fault) h = inr h
-
-comes_to : (P Q : Coming → Type 0) → ((c : Coming) → P c → Q c) → (made : Result Made Refusal) → ComesTo P made → ComesTo Q made
-comes_to P Q on (Ok made) h = on _ h
-comes_to P Q on (Err refused) h = comes_as P Q on refused h
-
--- what the files come to, where the core file and its note have no fault
-record AreRead (core : List ℕ) (page : ℕ) (entries : List EntryView) : Type 0 where
-  core_fine : core_check core ≡ Ok tt
-  note_fine : file_entries_check (file_note core) ≡ Ok tt
-  are : HasEntries (file_note core) page entries
-
-from_files : (core : List ℕ) (depth page : ℕ) (entries : List EntryView) (files : List File) (coming : Coming) → AreRead core page entries → FilesCome (process_of core page entries) depth files (files_fault (process_of core page entries) files) coming
-    → ProcwalkComesFrom core depth files (core_check core) coming
-from_files core depth page entries files coming read h =
-    subst (λ (check : Result (Unit {0}) CoreFault). ProcwalkComesFrom core depth files check coming) (sym read.core_fine)
-    (subst (λ (check : Check). NoteComes core depth files check coming) (sym read.note_fine) record { page = page; entries = entries; are = read.are; comes = h })
-
--- the note is refused, or memory ran out
-pub note_unread : (core : List ℕ) (depth : ℕ) (files : List File) (fault : ModuleFault) (refused : Refusal) → core_check core ≡ Ok tt → IsFaultOf (file_entries_check (file_note core)) fault
-    → (fault ≡ NoMemory → refused ≡ refusal.Memory) → ComesAs (λ (c : Coming). c ≡ coming_of_module 0 fault) refused → ComesAs (ProcwalkComesFrom core depth files (core_check core)) refused
-note_unread core depth files fault refused fine found memory tells = by_cause (fault_found (file_entries_check (file_note core)) fault found)
-  where
-    by_cause : (fault ≡ NoMemory) ⊎ (file_entries_check (file_note core) ≡ Err fault) → ComesAs (ProcwalkComesFrom core depth files (core_check core)) refused
-    by_cause (inl none) = memory_comes (ProcwalkComesFrom core depth files (core_check core)) refused (memory none)
-    by_cause (inr first) =
-        comes_as (λ (c : Coming). c ≡ coming_of_module 0 fault) (ProcwalkComesFrom core depth files (core_check core))
-        (λ c e. subst (λ (check : Result (Unit {0}) CoreFault). ProcwalkComesFrom core depth files check c) (sym fine) (subst (λ (check : Check). NoteComes core depth files check c) (sym first) e)) refused tells
-
 -- a file is refused, or memory ran out
 pub files_unread : (core : List ℕ) (depth page : ℕ) (entries : List EntryView) (files : List File) (refused : Refusal) → core_check core ≡ Ok tt → file_entries_check (file_note core) ≡ Ok tt → HasEntries (file_note core) page entries
-    → ComesAs (FilesCome (process_of core page entries) depth files (files_fault (process_of core page entries) files)) refused → ComesAs (ProcwalkComesFrom core depth files (core_check core)) refused
+    → ComesAs (ProcwalkComesIn depth files (process_of core page entries)) refused → ComesAs (ProcessComes core (ProcwalkComesIn depth files) (core_check core)) refused
 files_unread core depth page entries files refused fine note are =
-    comes_as (FilesCome (process_of core page entries) depth files (files_fault (process_of core page entries) files)) (ProcwalkComesFrom core depth files (core_check core))
-    (λ c h. from_files core depth page entries files c record { core_fine = fine; note_fine = note; are = are } h) refused
+    comes_as (ProcwalkComesIn depth files (process_of core page entries)) (ProcessComes core (ProcwalkComesIn depth files) (core_check core))
+    (λ c h. from_process core page entries (ProcwalkComesIn depth files) c record { core_fine = fine; note_fine = note; are = are } h) refused
 
 -- the modules are of several machines, exceed a limit, or walk
 pub modules_walked : (core : List ℕ) (depth page : ℕ) (entries : List EntryView) (files : List File) (modules : List ModuleView) (made : Result Made Refusal) → core_check core ≡ Ok tt → file_entries_check (file_note core) ≡ Ok tt
     → HasEntries (file_note core) page entries → files_fault (process_of core page entries) files ≡ None → AllZip (IsModuleOf (process_of core page entries)) files modules
     → ComesTo (λ (c : Coming). c ≡ coming_of_modules (mixed_item (arch_of core) modules) (sums_limit (tables_of modules)) (modules_walks entries modules core depth)) made
-    → ComesTo (ProcwalkComesFrom core depth files (core_check core)) made
+    → ComesTo (ProcessComes core (ProcwalkComesIn depth files) (core_check core)) made
 modules_walked core depth page entries files modules made fine note are checked each =
-    comes_to (λ (c : Coming). c ≡ coming_of_modules (mixed_item (arch_of core) modules) (sums_limit (tables_of modules)) (modules_walks entries modules core depth)) (ProcwalkComesFrom core depth files (core_check core))
-    (λ c e. from_files core depth page entries files c record { core_fine = fine; note_fine = note; are = are }
+    comes_to (λ (c : Coming). c ≡ coming_of_modules (mixed_item (arch_of core) modules) (sums_limit (tables_of modules)) (modules_walks entries modules core depth)) (ProcessComes core (ProcwalkComesIn depth files) (core_check core))
+    (λ c e. from_process core page entries (ProcwalkComesIn depth files) c record { core_fine = fine; note_fine = note; are = are }
     (subst (λ (fault : Option (ℕ × ModuleFault)). FilesCome (process_of core page entries) depth files fault c) (sym checked) record { modules = modules; are = each; is = e })) made

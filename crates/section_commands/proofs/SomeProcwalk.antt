@@ -2,48 +2,31 @@
 use Rattle.std.specs.List.{All, AllZip, zip}
 use Rattle.std.proofs.Common.{◌≡◌, ℕ, ◌+◌, Bool, true, false, cond, List, [], ◌∷◌, Option, Some, None, drop, Result, Ok, Err, is_some, refl, ap, sym, ◌∙◌, arith}
 use Rattle.std.proofs.lemmas.List.Elements.{All-cons, All-head, All-nil, All-tail}
-use Rattle.sf_bytes.specs.Cursor.{Cursor}
 use Rattle.sf_model.specs.Section.{AreBytes}
 use Rattle.sf_decode.specs.declared.fault.DecodeFault.{DecodeFault}
 use Rattle.sf_decode.specs.Decoding.{section_check, table_in}
 use Rattle.sf_decode.proofs.EntriesRead.{section_stands}
 use Rattle.sf_decode.proofs.Standing.{part_are_bytes}
-use Rattle.elf_read.specs.Checking.{unless, each_below}
+use Rattle.elf_read.specs.Checking.{unless}
 use Rattle.elf_read.specs.Header.{arch_of}
 use Rattle.elf_read.specs.Number.{window}
 use Rattle.elf_read.specs.Sections.{has_bytes, section_bytes, section_fields}
 use Rattle.core_notes.specs.declared.fault.CoreFault.{CoreFault}
 use Rattle.sf_modules.specs.declared.fault.ModuleFault.{ModuleFault}
-use Rattle.sf_modules.specs.declared.fault.ModuleFault.TheVariants.{FileNote, Mapping, NotMapped, Segments}
+use Rattle.sf_modules.specs.declared.fault.ModuleFault.TheVariants.{Mapping, NotMapped, Segments}
 use Rattle.sf_modules.specs.Entry.{EntryView}
-use Rattle.sf_modules.specs.Fault.{Check}
 use Rattle.sf_modules.specs.File.{first_load, sframe_section}
 use Rattle.sf_modules.specs.Match.{matching_entry, is_candidate}
 use Rattle.sf_modules.specs.Module.{IsModule, ModuleView, loaded_address}
-use Rattle.sf_modules.specs.Note.{HasEntries, numbered_entries, file_entries_check, file_entry_check, file_entry_count, file_header_check, file_note_check, has_file_names, names_part, page_size}
-use Rattle.sf_modules.specs.Process.{ProcessView, process_of}
+use Rattle.sf_modules.specs.Process.{ProcessView}
 use Rattle.sf_modules.specs.Reading.{build_part, decode_part, entry_part, match_part, module_check, nearest_part, process_part, room_part, section_part, segments_part, table_part}
-use Rattle.sf_modules.proofs.NamesRead.{names_exist}
 use Rattle.sf_modules.proofs.Placing.{both_fine, build_fine, nearest_fine, passes}
 use Rattle.section_commands.specs.Coming.{Coming}
 use Rattle.section_commands.specs.FirstFault.{first_failing}
-use Rattle.section_commands.specs.Procwalk.{File, FilesCome, IsModuleOf, NoteComes, ProcwalkComesFrom, coming_of_module, module_file_check as check_of_file, file_note, files_fault}
-use Rattle.section_commands.specs.Walks.{coming_of_core}
+use Rattle.section_commands.specs.Process.{File, ProcessComes, coming_of_module}
+use Rattle.section_commands.specs.Procwalk.{FilesCome, IsModuleOf, ProcwalkComesIn, module_file_check as check_of_file, files_fault}
+use Rattle.section_commands.proofs.Processes.{some_process}
 use Rattle.section_commands.proofs.Reading.{none_here}
-
--- ---- the entries of the note
-has_names : (note : Cursor) → file_note_check note ≡ Ok tt → has_file_names (file_entry_count note.left) (names_part note.left) ≡ true
-unfolding file_note_check file_header_check
-has_names note e =
-    let header = both_fine _ (each_below (file_entry_count note.left) (file_entry_check note)) e in
-    let named = both_fine _ _ header.0 in
-    passes _ (FileNote note.place) (both_fine _ _ named.0).1
-
-some_entries : (note : Option Cursor) → file_entries_check note ≡ Ok tt → (page : ℕ) × (entries : List EntryView) × HasEntries note page entries
-some_entries None e = cc
-some_entries (Some note) e =
-    let names = names_exist (file_entry_count note.left) (names_part note.left) (has_names note e) in
-    (page_size note.left, numbered_entries note.left 0 names.0, record { size = refl; names = names.0; names_are = names.1; are = refl })
 
 -- ---- the module of a file
 section_are_bytes : (file : List ℕ) (i : ℕ) → AreBytes file → AreBytes (section_bytes file i)
@@ -73,7 +56,7 @@ is_decoded : (check : Result (Unit {0}) DecodeFault) → decode_part check ≡ O
 is_decoded (Ok tt) e = refl
 is_decoded (Err fault) e = cc
 
-no_entry : (p : ProcessView) (word file : List ℕ) (load : ℕ) → nearest_part p word file load ≡ Ok tt → matching_entry p word file load ≡ None → ⊥
+pub no_entry : (p : ProcessView) (word file : List ℕ) (load : ℕ) → nearest_part p word file load ≡ Ok tt → matching_entry p word file load ≡ None → ⊥
 unfolding nearest_part
 no_entry p word file load fine e =
     let both = both_fine (unless (is_candidate word p.entries) NotMapped) (match_part p word file load (matching_entry p word file load)) fine in
@@ -149,14 +132,5 @@ some_from_files p depth files bytes None e =
     let modules = some_modules p 1 files bytes e in
     (_, record { modules = modules.0; are = modules.1; is = refl })
 
-some_from_note : (core : List ℕ) (depth : ℕ) (files : List File) → All HasBytes files → (check : Check) → file_entries_check (file_note core) ≡ check → (coming : Coming) × NoteComes core depth files check coming
-some_from_note core depth files bytes (Err fault) e = (coming_of_module 0 fault, refl)
-some_from_note core depth files bytes (Ok tt) e =
-    let found = some_entries (file_note core) e in
-    let p = process_of core found.0 found.1 in
-    let comes = some_from_files p depth files bytes (files_fault p files) refl in
-    (comes.0, record { page = found.0; entries = found.1; are = found.2; comes = comes.1 })
-
-pub some_procwalk : (core : List ℕ) (depth : ℕ) (files : List File) → All HasBytes files → (check : Result (Unit {0}) CoreFault) → (coming : Coming) × ProcwalkComesFrom core depth files check coming
-some_procwalk core depth files bytes (Err fault) = (coming_of_core 0 fault, refl)
-some_procwalk core depth files bytes (Ok u) = some_from_note core depth files bytes (file_entries_check (file_note core)) refl
+pub some_procwalk : (core : List ℕ) (depth : ℕ) (files : List File) → All HasBytes files → (check : Result (Unit {0}) CoreFault) → (coming : Coming) × ProcessComes core (ProcwalkComesIn depth files) check coming
+some_procwalk core depth files bytes = some_process core (ProcwalkComesIn depth files) (λ p. some_from_files p depth files bytes (files_fault p files) refl)

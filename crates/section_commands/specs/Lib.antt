@@ -9,3 +9,4 @@ pub mod Merge
 pub mod Slim
 pub mod Walk
 pub mod Procwalk
+pub mod Process

@@ -1,28 +1,21 @@
 -- `procwalk CORE DEPTH FILE ..`: the walks of a core file's threads by the sections of the files that were mapped (Linux core files, NT_FILE; ELF64 gABI, "Program Header"; GNU SFrame specification, Version 2).
-use Rattle.std.specs.Prelude.{◌≡◌, ◌<◌, ◌+◌, ℕ, Bool, ◌&&◌, not, All, List, [], ◌∷◌, codes, drop, get_or, length, map, Option, Some, None, Result, Ok, Err}
+use Rattle.std.specs.Prelude.{◌≡◌, ◌<◌, ◌+◌, ℕ, Bool, ◌&&◌, not, All, List, [], ◌∷◌, codes, drop, get_or, length, map, Option, Some, None}
 use Rattle.std.specs.List.{AllZip, position, zip}
 use Rattle.std.specs.Option.{option_map}
 use Rattle.std.specs.String.{string_bytes}
 use Rattle.sf_base.specs.Word.{SpellsDecimal}
-use Rattle.sf_bytes.specs.Cursor.{Cursor}
 use Rattle.sf_model.specs.declared.machine.Arch.{Arch}
 use Rattle.sf_model.specs.Table.{Table}
-use Rattle.sf_decode.specs.declared.fault.DecodeFault.TheVariants.{TooManyFunctions, TooManyRows}
 use Rattle.elf_read.specs.Header.{arch_of}
-use Rattle.core_notes.specs.declared.fault.CoreFault.{CoreFault}
 use Rattle.core_notes.specs.Checks.{core_check, file_threads}
-use Rattle.core_notes.specs.Listing.{notes_in, whole_notes}
 use Rattle.core_notes.specs.Memory.{file_regions}
 use Rattle.sf_modules.specs.declared.fault.ModuleFault.{ModuleFault}
-use Rattle.sf_modules.specs.declared.fault.ModuleFault.TheVariants.{Section}
 use Rattle.sf_modules.specs.Entry.{EntryView}
 use Rattle.sf_modules.specs.Fault.{Check}
 use Rattle.sf_modules.specs.Found.{modules_walk}
 use Rattle.sf_modules.specs.Module.{IsModule, ModuleView}
-use Rattle.sf_modules.specs.Note.{HasEntries, file_entries_check, file_note_in}
-use Rattle.sf_modules.specs.Process.{ProcessView, process_of}
+use Rattle.sf_modules.specs.Process.{ProcessView}
 use Rattle.sf_modules.specs.Reading.{module_check}
-use Rattle.sf_modules.specs.FaultShown.{shown_of_module}
 use Rattle.sf_modules.specs.Union.{tables_of}
 use Rattle.sf_functions.specs.declared.limits.Limit.{Limit as CountLimit}
 use Rattle.sf_functions.specs.declared.limits.Limit.TheVariants.{Functions, Rows}
@@ -37,37 +30,33 @@ use Rattle.section_commands.specs.declared.procwalk.Procwalk.{Procwalk}
 use Rattle.section_commands.specs.declared.made.Outcome.TheVariants.{Done}
 use Rattle.section_commands.specs.Coming.{Coming, Exceeded, Makes, Refused}
 use Rattle.section_commands.specs.FirstFault.{first_failing}
-use Rattle.section_commands.specs.Walks.{coming_of_core, shown_of_mixed, walks_text}
+use Rattle.section_commands.specs.Process.{File, ProcessComes, coming_of_module}
+use Rattle.section_commands.specs.Walks.{shown_of_mixed, walks_text}
 
--- what is asked of `procwalk`: the core file's name, the most frames of a thread, and the names of the files that were mapped
+-- what is asked of `procwalk`, or of a command of the same form: the core file's name, the most frames of a thread, and the names of the files that were mapped
 pub record ProcwalkWords : Type 0 where
   pub core : List ℕ
   pub depth : ℕ
   pub files : List (List ℕ)
 
--- the words ask for these walks: each name is a whole word that is not empty, and one file at least is named
-pub record IsProcwalk (words : List (List ℕ)) (procwalk : ProcwalkWords) : Type 0 where
+-- the words are a command with this name, this core file, this depth and these files: each name is a whole word that is not empty, and one
+-- file at least is named
+pub record NameProcess (command : List ℕ) (words : List (List ℕ)) (procwalk : ProcwalkWords) : Type 0 where
   pub depth_word : List ℕ
-  pub words_are : words ≡ codes "procwalk" ∷ procwalk.core ∷ depth_word ∷ procwalk.files
+  pub words_are : words ≡ command ∷ procwalk.core ∷ depth_word ∷ procwalk.files
   pub named : 0 < length procwalk.core
   pub depth : SpellsDecimal depth_word procwalk.depth
   pub within : IsDepth procwalk.depth
   pub some : 0 < length procwalk.files
   pub files_named : All (λ (name : List ℕ). 0 < length name) procwalk.files
 
+-- the words ask for these walks
+abbrev pub IsProcwalk : List (List ℕ) → ProcwalkWords → Type 0
+IsProcwalk words procwalk = NameProcess (codes "procwalk") words procwalk
+
 -- its files: a core file, and those of its list
 abbrev pub procwalk_files : ProcwalkWords → FilesWords
 procwalk_files procwalk = record { out = None; first = item.Core procwalk.core ∷ []; list = map item.Mapped procwalk.files }
-
--- a file as it is named, and its bytes
-abbrev pub File : Type 0
-File = List ℕ × List ℕ
-
--- what a fault of an item comes to: of the core file's note on mapped files, or of the module of a file
-abbrev pub coming_of_module : (item : ℕ) → ModuleFault → Coming
-coming_of_module item (Section (TooManyFunctions place)) = Exceeded limits.Functions
-coming_of_module item (Section (TooManyRows place)) = Exceeded limits.Rows
-coming_of_module item fault = Refused (shown_of_module (Some item) fault)
 
 -- ---- the modules
 -- this is the module of a file
@@ -119,28 +108,14 @@ abbrev pub FilesCome : ProcessView → (depth : ℕ) → List File → Option (�
 FilesCome p depth files (Some fault) coming = coming ≡ coming_of_module fault.0 fault.1
 FilesCome p depth files None coming = ModulesCome p depth files coming
 
--- the note on mapped files of a core file
-abbrev pub file_note : (core : List ℕ) → Option Cursor
-file_note core = file_note_in (whole_notes (notes_in core))
-
--- what the files come to by the page size and the entries of that note: the first whose module can't be read, or the walks
-pub record EntriesCome (core : List ℕ) (depth : ℕ) (files : List File) (coming : Coming) : Type 0 where
-  pub page : ℕ
-  pub entries : List EntryView
-  pub are : HasEntries (file_note core) page entries
-  pub comes : FilesCome (process_of core page entries) depth files (files_fault (process_of core page entries) files) coming
-
-abbrev pub NoteComes : (core : List ℕ) → (depth : ℕ) → List File → Check → Coming → Type 0
-NoteComes core depth files (Err fault) coming = coming ≡ coming_of_module 0 fault
-NoteComes core depth files (Ok u) coming = EntriesCome core depth files coming
-
-abbrev pub ProcwalkComesFrom : (core : List ℕ) → (depth : ℕ) → List File → Result (Unit {0}) CoreFault → Coming → Type 0
-ProcwalkComesFrom core depth files (Err fault) coming = coming ≡ coming_of_core 0 fault
-ProcwalkComesFrom core depth files (Ok u) coming = NoteComes core depth files (file_entries_check (file_note core)) coming
+-- what the files come to: the first whose module can't be read, or the walks
+abbrev pub ProcwalkComesIn : (depth : ℕ) → List File → ProcessView → Coming → Type 0
+ProcwalkComesIn depth files p coming = FilesCome p depth files (files_fault p files) coming
 
 -- what walking the threads of the first item, a core file, by the modules of the others comes to
 abbrev pub ProcwalkComes : ProcwalkWords → (items : List (List ℕ)) → Coming → Type 0
-ProcwalkComes procwalk items coming = ProcwalkComesFrom (get_or items 0 []) procwalk.depth (zip procwalk.files (drop 1 items)) (core_check (get_or items 0 [])) coming
+ProcwalkComes procwalk items coming =
+    ProcessComes (get_or items 0 []) (ProcwalkComesIn procwalk.depth (zip procwalk.files (drop 1 items))) (core_check (get_or items 0 [])) coming
 
 -- what the words ask for, without where they are in memory
 abbrev pub procwalk_of : Procwalk → ProcwalkWords

@@ -16,7 +16,8 @@ ghost use Rattle.sf_words.specs.Loading.{files_limit, loaded_bytes, loaded_items
 ghost use Rattle.section_commands.specs.Coming.{Coming};
 ghost use Rattle.section_commands.specs.Making.{ComesAs, ComesTo};
 ghost use Rattle.section_commands.specs.Procwalk as spec;
-ghost use Rattle.section_commands.specs.Procwalk.{FilesCome, IsModuleOf, IsProcwalk, ProcwalkComes, ProcwalkComesFrom, ProcwalkWords, coming_of_module, coming_of_modules, files_fault, modules_walks, procwalk_files, procwalk_of};
+ghost use Rattle.section_commands.specs.Process.{ProcessComes, coming_of_module};
+ghost use Rattle.section_commands.specs.Procwalk.{FilesCome, IsModuleOf, NameProcess, ProcwalkComes, ProcwalkComesIn, ProcwalkWords, coming_of_modules, files_fault, modules_walks, procwalk_files, procwalk_of};
 
 use crate::made::{Made, Outcome};
 use crate::walks::{mixed, same_machine, unread_core, walks_text};
@@ -34,7 +35,7 @@ use sf_words::{
 };
 use std::alloc::Global;
 
-/// The words of `procwalk CORE DEPTH FILE ..`.
+/// The words of `procwalk CORE DEPTH FILE ..`, or of a command of the same form.
 #[derive(Clone, Copy)]
 pub struct Procwalk<'a> {
     /// The name of the core file.
@@ -46,7 +47,7 @@ pub struct Procwalk<'a> {
 }
 
 /// Returns why the mapped files or the module of an item were not read, as a refusal of the run.
-fn unread_module<'a>(fault: &ModuleFault, item: u32) -> Refusal<'a>
+pub fn unread_module<'a>(fault: &ModuleFault, item: u32) -> Refusal<'a>
     ensures memory { (fault.now ≡ ModuleFault.NoMemory) → (result ≡ Refusal.Memory) }
     ensures is { ComesAs (λ (coming : Coming). coming ≡ coming_of_module item fault.now) result }
 {
@@ -154,7 +155,7 @@ fn run_limit(limit: sf_functions::Limit) -> Limit
 }
 
 /// Returns the limit that the sections of all modules exceed together.
-fn sums_limit(modules: &[Module<'_, '_>]) -> Option<Limit>
+pub fn sums_limit(modules: &[Module<'_, '_>]) -> Option<Limit>
     requires { length modules.now ≤ 512 }
     ensures { result ≡ spec.sums_limit (tables_of (map module_view modules.now)) }
 {
@@ -209,7 +210,7 @@ fn procwalk_made<'a, 'm>(
     requires few { length files.now ≤ 512 }
     requires short { length core.now < 2 ^ 32 }
     requires small { All (λ bytes. length bytes < 2 ^ 32) (loaded_bytes files.now) }
-    ensures { ComesTo (ProcwalkComesFrom core.now depth (zip (map string_bytes names.now) (loaded_bytes files.now)) (core_check core.now)) result }
+    ensures { ComesTo (ProcessComes core.now (ProcwalkComesIn depth (zip (map string_bytes names.now) (loaded_bytes files.now))) (core_check core.now)) result }
 {
     let core = match Core::parse(core) {
         Ok(core) => core,
@@ -224,13 +225,13 @@ fn procwalk_made<'a, 'm>(
 }
 
 impl<'a> Procwalk<'a> {
-    /// Returns what the words ask for, if they have this form.
-    pub fn read(words: &'a [String]) -> Option<Procwalk<'a>>
-        ensures found { IfSome result (λ procwalk. IsProcwalk (map string_bytes words.now) (procwalk_of procwalk)) }
-        ensures only { (procwalk : ProcwalkWords) → IsProcwalk (map string_bytes words.now) procwalk → IsSomeAnd result (λ found. procwalk_of found ≡ procwalk) }
+    /// Returns what the words ask for, if they have this form, with the command of this name.
+    pub fn read(words: &'a [String], name: &str) -> Option<Procwalk<'a>>
+        ensures found { IfSome result (λ procwalk. NameProcess name.now (map string_bytes words.now) (procwalk_of procwalk)) }
+        ensures only { (procwalk : ProcwalkWords) → NameProcess name.now (map string_bytes words.now) procwalk → IsSomeAnd result (λ found. procwalk_of found ≡ procwalk) }
     {
         let (command, core, depth, files) = three_and_items(words)?;
-        if command != "procwalk" || core.is_empty() {
+        if command != name || core.is_empty() {
             return None;
         }
         let depth = number_up_to(depth, MOST_FRAMES)?;

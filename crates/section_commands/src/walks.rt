@@ -31,7 +31,7 @@ pub fn unread_core<'a>(fault: &CoreFault, item: u32) -> Refusal<'a>
 }
 
 /// Returns that item 0 and this item are for different machines, as a refusal of the run.
-pub(crate) fn mixed<'a>(item: u32) -> Refusal<'a>
+pub fn mixed<'a>(item: u32) -> Refusal<'a>
     ensures { ComesAs (λ (coming : Coming). coming ≡ Refused (shown_of_mixed item)) result }
 {
     let mut notice = Notice::with_value(None, Group::Link, 1, 0);
@@ -40,7 +40,7 @@ pub(crate) fn mixed<'a>(item: u32) -> Refusal<'a>
 }
 
 /// Returns whether two machines are the same.
-pub(crate) fn same_machine(one: Arch, other: Arch) -> bool
+pub fn same_machine(one: Arch, other: Arch) -> bool
     ensures { result ≡ same_arch one other }
 {
     one == other

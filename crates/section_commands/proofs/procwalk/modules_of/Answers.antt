@@ -12,7 +12,8 @@ use Rattle.sf_words.specs.declared.item.Item.{Item}
 use Rattle.sf_words.specs.declared.loaded.Loaded.{Loaded}
 use Rattle.sf_words.specs.Items.{is_elf_input, item_of}
 use Rattle.sf_words.specs.Loading.{loaded_bytes}
-use Rattle.section_commands.specs.Procwalk.{File, IsModuleOf, module_file_check}
+use Rattle.section_commands.specs.Process.{File}
+use Rattle.section_commands.specs.Procwalk.{IsModuleOf, module_file_check}
 use Rattle.section_commands.proofs.Lists.{a_mapped_file, bytes_at, mapped_turn, none_left}
 use Rattle.section_commands.proofs.Procwalks.{unread}
 use Rattle.section_commands.proofs.Reading.{all_fine, all_made, one_more_read}

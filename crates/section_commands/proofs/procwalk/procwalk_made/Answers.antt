@@ -5,7 +5,8 @@ use Rattle.sf_modules.specs.Entry.{mapping_view}
 use Rattle.sf_modules.specs.Note.{HasEntries, file_entries_check}
 use Rattle.sf_modules.specs.Process.{process_of}
 use Rattle.section_commands.specs.Making.{ComesAs}
-use Rattle.section_commands.specs.Procwalk.{FilesCome, file_note, files_fault}
+use Rattle.section_commands.specs.Process.{file_note}
+use Rattle.section_commands.specs.Procwalk.{FilesCome, files_fault}
 use Rattle.sf_words.specs.Loading.{loaded_bytes}
 use Rattle.section_commands.proofs.Procwalks.{files_unread}
 use Rattle.section_commands.proofs.procwalk.procwalk_made.Goals as goal

@@ -9,7 +9,8 @@ use Rattle.sf_words.specs.Loading.{loaded_bytes}
 use Rattle.sf_words.proofs.Limits.{within_limits}
 use Rattle.sf_words.proofs.WholeFiles.{first_whole}
 use Rattle.section_commands.specs.Making.{ComesTo}
-use Rattle.section_commands.specs.Procwalk.{ProcwalkComesFrom, procwalk_files, procwalk_of}
+use Rattle.section_commands.specs.Process.{ProcessComes}
+use Rattle.section_commands.specs.Procwalk.{ProcwalkComesIn, procwalk_files, procwalk_of}
 use Rattle.section_commands.proofs.Lists.{as_many, bytes_at, later_bytes, later_files, later_items}
 use Rattle.section_commands.proofs.Procwalks.{IsShort, loaded_short}
 use Rattle.section_commands.proofs.procwalk.Procwalk.make.Goals as goal
@@ -51,6 +52,6 @@ returns c =
     let files : loaded_bytes (take (length loaded - 1) (drop 1 loaded)) ≡ drop 1 bytes = ap loaded_bytes (later_files loaded) ∙ later_bytes loaded in
     record {
       comes =
-          subst (λ (b : List ℕ). ComesTo (ProcwalkComesFrom b depth (zip names (drop 1 bytes)) (core_check b)) c.procwalk_made.result) core
-          (subst (λ (fs : List (List ℕ)). ComesTo (ProcwalkComesFrom c.bytes.result.now depth (zip names fs) (core_check c.bytes.result.now)) c.procwalk_made.result) files c.procwalk_made.ensures);
+          subst (λ (b : List ℕ). ComesTo (ProcessComes b (ProcwalkComesIn depth (zip names (drop 1 bytes))) (core_check b)) c.procwalk_made.result) core
+          (subst (λ (fs : List (List ℕ)). ComesTo (ProcessComes c.bytes.result.now (ProcwalkComesIn depth (zip names fs)) (core_check c.bytes.result.now)) c.procwalk_made.result) files c.procwalk_made.ensures);
     }

@@ -1,7 +1,6 @@
 use Rattle.std.proofs.Common.{rules, ◌≡◌, ◌<◌, ℕ, All, List, ◌∷◌, length, map, refl, ap, sym, subst, ◌∙◌}
 use Rattle.std.proofs.lemmas.List.{length-map}
 use Rattle.std.proofs.lemmas.List.Elements.{All-map}
-use Rattle.std.specs.Prelude.{codes}
 use Rattle.std.specs.String.{string_bytes}
 use Rattle.sf_base.specs.Word.{SpellsDecimal}
 use Rattle.section_commands.specs.Procwalk.{ProcwalkWords}
@@ -22,7 +21,7 @@ returns-then-not-are_named-clause-only c procwalk h =
 
 pub returns-clause-found : goal.returns-clause-found
 returns-clause-found c =
-    let command : c.in_ok-command.command.now ≡ codes "procwalk" = search rules in
+    let command : c.in_ok-command.command.now ≡ c.args.name.now = search rules in
     let after : List ℕ → List (List ℕ) = λ w. w ∷ c.in_ok-command.core.now ∷ c.in_ok-command.depth.now ∷ map string_bytes c.in_ok-command.files.now in
     record {
       depth_word = c.in_ok-command.depth.now;
