@@ -1,0 +1,5 @@
+mod Names
+mod Tables
+pub mod Lookups
+mod Lines
+mod Ordered

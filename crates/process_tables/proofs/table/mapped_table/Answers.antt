@@ -1,0 +1,13 @@
+use Rattle.std.proofs.Common.{List, ℕ, refl, sym, subst}
+use Rattle.sf_modules.specs.Fault.{IsFaultOf}
+use Rattle.sf_modules.specs.Mapped.{IsMapped, mapped_view}
+use Rattle.sf_modules.specs.Process.{process_view}
+use Rattle.process_tables.proofs.Tables.{made}
+use Rattle.process_tables.proofs.table.mapped_table.Goals as goal
+
+pub returns-in-Ok-module_table-clause-table : goal.returns-in-Ok-module_table-clause-table
+returns-in-Ok-module_table-clause-table c =
+    let p = process_view c.args.process.now in
+    let mapped = mapped_view c.in-Ok.mapped in
+    let is = subst (λ (word : List ℕ). IsMapped p word c.args.bytes.now mapped) c.as_bytes.ensures.value c.in-Ok.ensures.sound in
+    made p c.args.item c.args.word.now c.args.bytes.now mapped _ refl refl refl is c.in-Ok-module_table.ensures.table
