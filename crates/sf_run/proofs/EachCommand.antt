@@ -10,8 +10,9 @@ use Rattle.section_commands.proofs.ShownComes.{dump_comes_to_one, lookup_comes_t
 use Rattle.section_commands.proofs.SlimComes.{slim_comes_to_one}
 use Rattle.section_commands.proofs.WalkComes.{walk_comes_to_one}
 use Rattle.sf_run.specs.Comes.{AreItems, Comes, command_limit}
-use Rattle.sf_run.specs.Commands.{CommandComes, CommandWords, IsCommand, files_of_command, Link, LinkPlt, Merge, Slim, Dump, Lookup, Verify, Walk, Backtrace, Procwalk, Gen}
+use Rattle.sf_run.specs.Commands.{CommandComes, CommandWords, IsCommand, files_of_command, Link, LinkPlt, Merge, Slim, Dump, Lookup, Verify, Walk, Backtrace, Procwalk, Procbacktrace, Gen}
 use Rattle.sf_run.proofs.LinkingCommands.{backtrace_comes_to_one, gen_comes_to_one, link_comes_to_one, link_plt_comes_to_one, verify_comes_to_one}
+use Rattle.sf_run.proofs.ProcbacktraceComes.{procbacktrace_comes_to_one}
 
 comes_to_one : (command : CommandWords) → ComesToOne (λ words. IsCommand words command) (files_of_command command) (λ items coming. CommandComes command items coming)
 comes_to_one (Link link) = link_comes_to_one link
@@ -24,6 +25,7 @@ comes_to_one (Verify verify) = verify_comes_to_one verify
 comes_to_one (Walk walk) = walk_comes_to_one walk
 comes_to_one (Backtrace backtrace) = backtrace_comes_to_one backtrace
 comes_to_one (Procwalk procwalk) = procwalk_comes_to_one procwalk
+comes_to_one (Procbacktrace procbacktrace) = procbacktrace_comes_to_one procbacktrace
 comes_to_one (Gen n) = gen_comes_to_one n
 
 one_within : (limit : Option Limit) (Then : Coming → Type 0) → ((c d : Coming) → Then c → Then d → c ≡ d) → (c d : Coming) → ComesWithin limit Then c → ComesWithin limit Then d → c ≡ d

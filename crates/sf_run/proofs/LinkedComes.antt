@@ -56,7 +56,7 @@ unlinked_comes before objects at made fault refused (inr first) memory tells =
     comes_as (λ (c : Coming). c ≡ coming_of_linking fault) (LinkedComes before objects at made) (λ c e. record { result = Err fault; links = first; comes = e }) refused tells
 
 -- ---- linkplt
-plt_links_of : (objects : List Object) (at : ℕ) (section : List ℕ) (kept : ℕ) (omitted : List Omitted) (plts : List Span) → (h : IsPltLinked None objects at section kept omitted plts) → LinksPlts None objects at (Ok h.sorted)
+pub plt_links_of : (objects : List Object) (at : ℕ) (section : List ℕ) (kept : ℕ) (omitted : List Omitted) (plts : List Span) → (h : IsPltLinked None objects at section kept omitted plts) → LinksPlts None objects at (Ok h.sorted)
 plt_links_of objects at section kept omitted plts h =
     let given = by_parts_are (functions_of (first_item None) objects) (mixed_fault None objects) h.functions (described (first_item None) objects (Ok h.functions) h.are) (one_is_unmixed h.arch (machines_of None objects) h.machine) in
     to_plt_links None objects at (Ok h.sorted) (subst (λ (g : Result (List Function) GatherFault). LinksPltsFrom at g (Ok h.sorted)) (sym given)

@@ -41,7 +41,7 @@ use Rattle.sf_run.specs.Linked.{LinkedComes, LinkedComesFrom, Makings, MakesLink
 use Rattle.sf_run.specs.Verify.{VerifyComesFrom, coming_of_verdict}
 
 -- ---- link
-one_machine : (before : Option Arch) (objects : List Object) → 0 < length objects → (a b : Arch) → HaveMachine before objects a → HaveMachine before objects b → a ≡ b
+pub one_machine : (before : Option Arch) (objects : List Object) → 0 < length objects → (a b : Arch) → HaveMachine before objects a → HaveMachine before objects b → a ≡ b
 one_machine before [] some a b p q = let none : ⊥ = omega (arith, some) in absurd none
 one_machine None (o ∷ os) some a b p q = sym (p 0 a (omega arith)) ∙ q 0 a (omega arith)
 one_machine (Some arch) (o ∷ os) some a b p q = sym (p 0 a (omega arith)) ∙ q 0 a (omega arith)

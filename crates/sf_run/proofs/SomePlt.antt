@@ -41,7 +41,7 @@ numbers_fit f =
     all_of NumbersFit f (λ k. subst OutcomeFits k.outcome_is (entry_fits f)) (λ t. (first_fits f t.content (table_in_range f t), later_fit f t.content t.table (table_in_range f t)))
 
 -- ---- the section
-some_linked_plts : (objects : List Object) (at : ℕ) (sorted : List Function) → AreLinked None objects at sorted → SomeSection None objects at
+pub some_linked_plts : (objects : List Object) (at : ℕ) (sorted : List Function) → AreLinked None objects at sorted → SomeSection None objects at
 some_linked_plts objects at sorted h =
     let one = is_one (machines_of None objects) h.unmixed in
     let read = All-permutation (IsRead one.arch) h.functions sorted h.by_start.moved (functions_read one.arch 0 objects h.functions one.all h.are) in

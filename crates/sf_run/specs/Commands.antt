@@ -16,6 +16,7 @@ use Rattle.sf_run.specs.Backtrace.{BacktraceComes, BacktraceWords, IsBacktrace, 
 use Rattle.sf_run.specs.Link.{IsLink, LinkComes, link_files}
 use Rattle.sf_run.specs.LinkPlt.{IsLinkPlt, LinkPltComes}
 use Rattle.sf_run.specs.Object.{GenComes, IsGen, gen_files}
+use Rattle.sf_run.specs.Procbacktrace.{IsProcbacktrace, ProcbacktraceComes}
 use Rattle.sf_run.specs.Verify.{IsVerify, VerifyComes, verify_files}
 
 -- what a command line asks for
@@ -30,6 +31,7 @@ pub data CommandWords : Type 0 where
   Walk : WalkWords → CommandWords
   Backtrace : BacktraceWords → CommandWords
   Procwalk : ProcwalkWords → CommandWords
+  Procbacktrace : ProcwalkWords → CommandWords
   Gen : (n : ℕ) → CommandWords
 
 -- the words ask for this
@@ -44,6 +46,7 @@ IsCommand words (Verify verify) = IsVerify words verify
 IsCommand words (Walk walk) = IsWalk words walk
 IsCommand words (Backtrace backtrace) = IsBacktrace words backtrace
 IsCommand words (Procwalk procwalk) = IsProcwalk words procwalk
+IsCommand words (Procbacktrace procbacktrace) = IsProcbacktrace words procbacktrace
 IsCommand words (Gen n) = IsGen words n
 
 -- the files that a command makes and reads
@@ -58,6 +61,7 @@ files_of_command (Verify verify) = verify_files verify
 files_of_command (Walk walk) = walk_files walk
 files_of_command (Backtrace backtrace) = backtrace_files backtrace
 files_of_command (Procwalk procwalk) = procwalk_files procwalk
+files_of_command (Procbacktrace procbacktrace) = procwalk_files procbacktrace
 files_of_command (Gen n) = gen_files
 
 -- what a command comes to over the bytes of the files that it reads, if these are within the limits
@@ -72,6 +76,7 @@ CommandComes (Verify verify) items coming = VerifyComes verify items coming
 CommandComes (Walk walk) items coming = WalkComes walk items coming
 CommandComes (Backtrace backtrace) items coming = BacktraceComes backtrace items coming
 CommandComes (Procwalk procwalk) items coming = ProcwalkComes procwalk items coming
+CommandComes (Procbacktrace procbacktrace) items coming = ProcbacktraceComes procbacktrace items coming
 CommandComes (Gen n) items coming = GenComes n coming
 
 -- what a command of the code asks for, without where its words are in memory
@@ -86,6 +91,7 @@ words_of (command.Verify verify) = Verify (section_and_inputs_of verify)
 words_of (command.Walk walk) = Walk (walk_of walk)
 words_of (command.Backtrace backtrace) = Backtrace (backtrace_of backtrace)
 words_of (command.Procwalk procwalk) = Procwalk (procwalk_of procwalk)
+words_of (command.Procbacktrace named) = Procbacktrace (procwalk_of named)
 words_of (command.Gen object) = Gen object.functions
 
 -- the words have none of the forms

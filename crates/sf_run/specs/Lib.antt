@@ -10,3 +10,4 @@ pub mod Linked
 pub mod Object
 pub mod Status
 pub mod Verify
+pub mod Procbacktrace

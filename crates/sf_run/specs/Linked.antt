@@ -14,11 +14,15 @@ use Rattle.sf_asm.specs.FaultShown.{shown_of_linking}
 use Rattle.sf_words.specs.declared.refusal.Limit.TheVariants.{Functions, Rows}
 use Rattle.section_commands.specs.Coming.{Coming, Refused, Exceeded}
 
--- what a fault of linking comes to
+-- what a fault of linking comes to, of the item that the line names, if it names one
+abbrev pub coming_of_link_fault : (item : Option ℕ) → LinkFault → Coming
+coming_of_link_fault item (Gather TooManyFunctions) = Exceeded Functions
+coming_of_link_fault item (Gather TooManyRows) = Exceeded Rows
+coming_of_link_fault item fault = Refused (shown_of_linking item fault)
+
+-- the same of all inputs
 abbrev pub coming_of_linking : LinkFault → Coming
-coming_of_linking (Gather TooManyFunctions) = Exceeded Functions
-coming_of_linking (Gather TooManyRows) = Exceeded Rows
-coming_of_linking fault = Refused (shown_of_linking None fault)
+coming_of_linking fault = coming_of_link_fault None fault
 
 -- what a command makes of the functions of its inputs, of their section, of how many functions it holds, and of those that were omitted
 abbrev pub Makings : Type 0

@@ -118,7 +118,7 @@ impl<'a> Backtrace<'a> {
                     output: Output::Text(text),
                 })
             }
-            Err(fault) => Err(unlinked(&fault)),
+            Err(fault) => Err(unlinked(&fault, None)),
         }
     }
 }

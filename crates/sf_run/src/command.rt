@@ -10,7 +10,7 @@ ghost use Rattle.sf_run.specs.Commands.{CanBeAsked, CommandWords, IsCommand, fil
 
 use crate::backtrace::Backtrace;
 use crate::object::Gen;
-use crate::{link, verify};
+use crate::{link, procbacktrace, verify};
 use section_commands::{Dump, Lookup, Made, Merge, Procwalk, Slim, Walk};
 use sf_words::{CommandFiles, Loaded, Refusal, SectionAndInputs, section_and_inputs};
 use std::alloc::Global;
@@ -45,6 +45,9 @@ pub enum Command<'a> {
     /// `procwalk CORE DEPTH FILE ..` prints the stacks with the section `.sframe` of each file. Each section is used at the
     /// address at which the process had its file mapped.
     Procwalk(Procwalk<'a>),
+    /// `procbacktrace CORE DEPTH FILE ..` prints the stacks with the call frame information of each file, also through signal
+    /// handlers. A FILE that the process had not mapped is passed over.
+    Procbacktrace(Procwalk<'a>),
     /// `gen N` tests itself on a generated object of N functions. It links the object, and prints a summary. No file is
     /// needed.
     Gen(Gen),
@@ -82,8 +85,11 @@ pub fn command_words(words: &[String]) -> Option<Command<'_>>
     if let Some(backtrace) = Backtrace::read(words) {
         return Some(Command::Backtrace(backtrace));
     }
-    if let Some(procwalk) = Procwalk::read(words) {
+    if let Some(procwalk) = Procwalk::read(words, "procwalk") {
         return Some(Command::Procwalk(procwalk));
+    }
+    if let Some(named) = Procwalk::read(words, "procbacktrace") {
+        return Some(Command::Procbacktrace(named));
     }
     let object = Gen::read(words)?;
     Some(Command::Gen(object))
@@ -105,6 +111,7 @@ impl<'a> Command<'a> {
             Command::Walk(walk) => walk.files(),
             Command::Backtrace(backtrace) => backtrace.files(),
             Command::Procwalk(procwalk) => procwalk.files(),
+            Command::Procbacktrace(named) => named.files(),
             Command::Gen(object) => object.files(),
         }
     }
@@ -132,6 +139,7 @@ impl<'a> Command<'a> {
             Command::Walk(walk) => walk.make(alloc, loaded),
             Command::Backtrace(backtrace) => backtrace.make(alloc, loaded),
             Command::Procwalk(procwalk) => procwalk.make(alloc, loaded),
+            Command::Procbacktrace(named) => procbacktrace::make(alloc, named, loaded),
             Command::Gen(object) => object.make(alloc),
         }
     }

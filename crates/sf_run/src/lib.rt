@@ -20,6 +20,7 @@ mod lines;
 mod link;
 mod linked;
 mod object;
+mod procbacktrace;
 mod running;
 mod status;
 mod tell;

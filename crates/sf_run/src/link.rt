@@ -54,7 +54,7 @@ pub fn make<'a, 'm>(
                 output: Output::Text(text),
             })
         }
-        Err(fault) => Err(unlinked(&fault)),
+        Err(fault) => Err(unlinked(&fault, None)),
     }
 }
 
@@ -83,6 +83,6 @@ pub fn make_with_plts<'a, 'm>(
                 output: Output::Text(text),
             })
         }
-        Err(fault) => Err(unlinked(&fault)),
+        Err(fault) => Err(unlinked(&fault, None)),
     }
 }

@@ -10,7 +10,7 @@ ghost use Rattle.sf_words.specs.Words.{InputWords, input_of};
 ghost use Rattle.section_commands.specs.Coming.{Coming};
 ghost use Rattle.section_commands.specs.Making.{ComesAs};
 ghost use Rattle.sf_run.specs.Inputs.{objects_in};
-ghost use Rattle.sf_run.specs.Linked.{coming_of_linking};
+ghost use Rattle.sf_run.specs.Linked.{coming_of_link_fault};
 
 use sf_asm::{GatherFault, Input, InputBytes, LinkFault};
 use sf_base::NoMemory;
@@ -18,20 +18,20 @@ use sf_parts::FileRead;
 use sf_words::{InputFile, Item, Limit, Loaded, Refusal};
 use std::alloc::Global;
 
-/// Returns why inputs were not linked, as a refusal of the run.
-pub fn unlinked<'a>(fault: &LinkFault) -> Refusal<'a>
+/// Returns why inputs were not linked, as a refusal of the run, or of an item that it names.
+pub fn unlinked<'a>(fault: &LinkFault, item: Option<u32>) -> Refusal<'a>
     requires { IsTrue (is_answered fault.now) }
     ensures memory { (fault.now ≡ LinkFault.NoMemory) → (result ≡ Refusal.Memory) }
-    ensures is { ComesAs (λ (coming : Coming). coming ≡ coming_of_linking fault.now) result }
+    ensures is { ComesAs (λ (coming : Coming). coming ≡ coming_of_link_fault item fault.now) result }
 {
     match fault {
         LinkFault::NoMemory | LinkFault::Gather(GatherFault::NoMemory) => Refusal::Memory,
         LinkFault::Gather(GatherFault::TooManyFunctions) => Refusal::Limit(Limit::Functions),
         LinkFault::Gather(GatherFault::TooManyRows) => Refusal::Limit(Limit::Rows),
-        LinkFault::Gather(GatherFault::Input(_, _)) => Refusal::Input(fault.notice(None)),
-        LinkFault::Gather(GatherFault::MixedArch(_, _)) => Refusal::Input(fault.notice(None)),
-        LinkFault::Gather(GatherFault::Overlap(_, _, _, _)) => Refusal::Input(fault.notice(None)),
-        LinkFault::OutOfReach(_) => Refusal::Input(fault.notice(None)),
+        LinkFault::Gather(GatherFault::Input(_, _)) => Refusal::Input(fault.notice(item)),
+        LinkFault::Gather(GatherFault::MixedArch(_, _)) => Refusal::Input(fault.notice(item)),
+        LinkFault::Gather(GatherFault::Overlap(_, _, _, _)) => Refusal::Input(fault.notice(item)),
+        LinkFault::OutOfReach(_) => Refusal::Input(fault.notice(item)),
     }
 }
 

@@ -86,7 +86,7 @@ impl Gen {
                     output: Output::Text(text),
                 })
             }
-            Err(fault) => Err(unlinked(&fault)),
+            Err(fault) => Err(unlinked(&fault, None)),
         }
     }
 }

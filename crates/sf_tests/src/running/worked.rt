@@ -8,7 +8,7 @@ pub struct Worked {
     pub text: &'static str,
 }
 
-pub const WORKED: [Worked; 11] = [
+pub const WORKED: [Worked; 12] = [
     Worked {
         words: "link o@0x3000 eh-amd64:e@0x2000",
         files: &[("e", ONE_FUNCTION)],
@@ -77,6 +77,13 @@ pub const WORKED: [Worked; 11] = [
         text: "thread 0 pid 100\n  #0 pc 0x1004 cfa 0x7010\n  #1 pc 0x1005 cfa 0x7020\n  #2 pc 0x0\n  \
                stop outside 0xffffffffffffffff\nthread 1 pid 101\n  #0 pc 0x1000 cfa 0x9008\n  stop unreadable 0x9000\n",
     },
+    Worked {
+        words: "procbacktrace c 64 a",
+        files: &[("c", MAPPED_CORE), ("a", CALLS)],
+        section: None,
+        text: "thread 0 pid 100\n  #0 pc 0x1004 cfa 0x7010 a+0x4\n  #1 pc 0x1005 cfa 0x7020 a+0x5\n  #2 pc 0x0\n  \
+               stop outside 0xffffffffffffffff\nthread 1 pid 101\n  #0 pc 0x1000 cfa 0x9008 a+0x0\n  stop unreadable 0x9000\n",
+    },
 ];
 
 /// A run over a shared object, of which the file header, the section headers, the names and the call frame information are read.
@@ -143,3 +150,11 @@ const LINKED: &str =
      90 01 00 00 1c 00 00 00 1c 00 00 00 e0 ef ff ff 06 00*4 41 0e 10 86 02 43 0d 06 41 0c 07 08 00*11 00 2e 65 68 5f 66 72 61 \
      6d 65 00 2e 73 68 73 74 72 74 61 62 00*4 00*64 01 00*3 01 00*3 02 00*8 20 00*6 40 00*7 3c 00*15 08 00*15 0b 00*3 03 00*19 \
      80 00*7 15 00*15 01 00*15";
+
+/// A shared object for AMD64 with a loaded segment. A function of 6 bytes at its first address saves its frame pointer.
+const CALLS: &str =
+    "7f 45 4c 46 02 01 01 00*9 03 00 3e 00 01 00*11 40 00*7 f0 00*11 40 00 38 00 01 00 40 00 03 00 02 00 01 00 00 00 \
+     05 00*27 b0 01 00*7 30 00*7 10 00*6 14 00*7 01 7a 52 00 01 78 10 01 1b 0c 07 08 90 01 00 00 1c 00 00 00 1c 00 00 \
+     00 e0 df ff ff 06 00*4 41 0e 10 86 02 43 0d 06 41 0c 07 08 00 00 00 1c 00 00 00 3c 00 00 00 d0 ef ff ff 06 00*4 \
+     41 0e 10 86 02 43 0d 06 41 0c 07 08 00*8 2e 65 68 5f 66 72 61 6d 65 00 2e 73 68 73 74 72 74 61 62 00*72 01 00 00 \
+     00 01 00 00 00 02 00*8 20 00*6 78 00*7 5c 00*15 08 00*15 0b 00 00 00 03 00*19 d4 00*7 15 00*15 01 00*15";

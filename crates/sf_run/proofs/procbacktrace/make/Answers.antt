@@ -1,0 +1,51 @@
+use Rattle.std.specs.List.{zip}
+use Rattle.std.specs.String.{string_bytes}
+use Rattle.std.proofs.Common.{◌≡◌, ◌<◌, ◌≤◌, ◌^◌, ◌-◌, ℕ, All, List, [], map, length, take, drop, get_or, refl, ap, sym, subst, ◌∙◌, arith}
+use Rattle.core_notes.specs.Checks.{core_check}
+use Rattle.sf_parts.specs.Read.{file_of}
+use Rattle.sf_words.specs.declared.loaded.Loaded.{Loaded}
+use Rattle.sf_words.specs.Items.{Core, Mapped}
+use Rattle.sf_words.specs.Loading.{loaded_bytes}
+use Rattle.sf_words.proofs.Limits.{within_limits}
+use Rattle.section_commands.specs.Making.{ComesTo}
+use Rattle.section_commands.specs.Process.{ProcessComes}
+use Rattle.section_commands.specs.Procwalk.{procwalk_files, procwalk_of}
+use Rattle.sf_run.specs.Procbacktrace.{ProcbacktraceComesIn}
+use Rattle.section_commands.proofs.Lists.{as_many, bytes_at, later_bytes, later_files, later_items}
+use Rattle.section_commands.proofs.Procwalks.{IsShort, loaded_short}
+use Rattle.sf_run.proofs.procbacktrace.make.Goals as goal
+
+pub core_walked-requires-clause-few : goal.core_walked-requires-clause-few
+core_walked-requires-clause-few c =
+    let loaded = c.args.loaded.now in
+    let names = map string_bytes c.args.named.now.files.now in
+    let limits = within_limits (procwalk_files (procwalk_of c.args.named.now)) (loaded_bytes loaded) c.requires.within in
+    let few : length (map Mapped names) ≤ 512 = limits.0 in
+    let count : length (drop 1 loaded) ≡ length (map Mapped names) = as_many (drop 1 loaded) (map Mapped names) (later_items loaded (Core c.args.named.now.core.now) (map Mapped names) c.requires.items) in
+    subst (λ (files : List Loaded). length files ≤ 512) (sym (later_files loaded)) (omega (arith, few, count))
+
+pub core_walked-requires-clause-short : goal.core_walked-requires-clause-short
+core_walked-requires-clause-short c =
+    let loaded = c.args.loaded.now in
+    let limits = within_limits (procwalk_files (procwalk_of c.args.named.now)) (loaded_bytes loaded) c.requires.within in
+    let short = loaded_short c.args.named.now.core.now (map string_bytes c.args.named.now.files.now) loaded c.core-item.result c.requires.items limits.1 in
+    subst (λ (b : List ℕ). length b < 2 ^ 32) (sym (c.bytes.ensures ∙ ap (λ (l : Loaded). file_of l.read) c.core-item.is)) short.0
+
+pub core_walked-requires-clause-small : goal.core_walked-requires-clause-small
+core_walked-requires-clause-small c =
+    let loaded = c.args.loaded.now in
+    let limits = within_limits (procwalk_files (procwalk_of c.args.named.now)) (loaded_bytes loaded) c.requires.within in
+    let short = loaded_short c.args.named.now.core.now (map string_bytes c.args.named.now.files.now) loaded c.core-item.result c.requires.items limits.1 in
+    subst (λ (files : List Loaded). All IsShort (loaded_bytes files)) (sym (later_files loaded)) short.1
+
+pub returns : goal.returns
+returns c =
+    let loaded = c.args.loaded.now in
+    let bytes = loaded_bytes loaded in
+    let names = map string_bytes c.args.named.now.files.now in
+    let depth = c.args.named.now.depth in
+    let some : 0 < length loaded = omega (arith, c.in-len1-up.len_at_least) in
+    let core : c.bytes.result.now ≡ get_or bytes 0 [] = c.bytes.ensures ∙ ap (λ (l : Loaded). file_of l.read) c.core-item.is ∙ sym (bytes_at loaded 0 c.core-item.result some) in
+    let files : loaded_bytes (take (length loaded - 1) (drop 1 loaded)) ≡ drop 1 bytes = ap loaded_bytes (later_files loaded) ∙ later_bytes loaded in
+    subst (λ (b : List ℕ). ComesTo (ProcessComes b (ProcbacktraceComesIn depth (zip names (drop 1 bytes))) (core_check b)) c.core_walked.result) core
+    (subst (λ (fs : List (List ℕ)). ComesTo (ProcessComes c.bytes.result.now (ProcbacktraceComesIn depth (zip names fs)) (core_check c.bytes.result.now)) c.core_walked.result) files c.core_walked.ensures)
