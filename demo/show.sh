@@ -267,7 +267,7 @@ END
     fi
 
     say
-    say '8. A process with three libraries: the stack in its core file, each frame by the section in its own file'
+    say '8. A process with three libraries: the stack in its core file, each frame by the table of its own file, which is made on the spot'
     echo 'int two(int n); int one(int n) { return two(n + 1) + 1; }' >"$out/one.c"
     echo 'int three(int n); int two(int n) { return three(n + 1) + 1; }' >"$out/two.c"
     echo 'int three(int n) { if (n > 0) __builtin_trap(); return n; }' >"$out/three.c"
@@ -277,13 +277,16 @@ END
         make_core "$out/calls"
     fi
     if [ -s "$out/core" ]; then
+        tool procbacktrace "$out/core" 64 "$out/calls" "$out/libone.so" "$out/libtwo.so" "$out/libthree.so" >"$out/walk" ||
+            fail 'the process was not walked'
+        show_walk
+        say '   The walk ends in the C library, of which no file was given. The same by sections in copies of the files:'
         for name in calls libone.so libtwo.so libthree.so; do
             add_section "$name"
         done
-        tool procwalk "$out/core" 64 "$out/with/calls" "$out/with/libone.so" "$out/with/libtwo.so" "$out/with/libthree.so" >"$out/walk" ||
-            fail 'the process was not walked'
-        show_walk
-        say '   The walk ends in the C library, of which no file was given.'
+        tool procwalk "$out/core" 64 "$out/with/calls" "$out/with/libone.so" "$out/with/libtwo.so" "$out/with/libthree.so" >"$out/again" ||
+            fail 'the process was not walked by its sections'
+        sed 's/ [^ ]*+0x[0-9a-f]*$//' "$out/walk" | cmp - "$out/again" || fail 'the two walks differ'
         walked=1
     else
         say '   No core file can be had here: this step wants shared libraries, and gdb or a kernel that writes the file core.'

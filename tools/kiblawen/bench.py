@@ -5,8 +5,8 @@
     ./x bench FILE        the same on another executable or shared object
     ./x bench made        generated inputs: 2^15 to 2^21 small functions, one function of 2^14 to 2^20 rows, and a look-up in 2^20 functions
                           beside bench/pass.c, a C program that reads the same file and goes over it once (if there is a cc)
-    ./x bench core        walks: generated core files of 4096 threads, with one section and with 200 files, and a core file of a program 1000
-                          calls deep beside gdb and eu-stack
+    ./x bench core        walks: generated core files of 4096 threads, with one section and with 200 files; a core file of a program 1000 calls
+                          deep beside gdb and eu-stack; and one of a process with 40 files and 16 threads beside eu-stack
     ./x bench library     look-ups and walks with the C library on a generated section of 100,000 functions, beside bsearch() and libsframe,
                           and walks of a stack of 70 frames, beside glibc, libunwind and frame pointers
     ./x bench hostile ..  deliberately slow inputs, compared with limits; `./x bench hostile --help` says more
@@ -29,6 +29,7 @@ import sys
 
 from kiblawen import common, elf, hostile, program
 from kiblawen.measure import Command, measure
+from kiblawen.stopping import compiled, stopped
 
 OUT = common.at_top("bench", "out")
 OUTPUT = os.path.join(OUT, "output")
@@ -51,6 +52,42 @@ __attribute__((noinline)) int deep(int n)
     return bytes[n % 64];
 }
 int main(void) { return deep(1000); }
+"""
+# A library of 1000 functions, and a program that calls through as many of them as it is given, in 16 threads.
+LIBRARY = "".join(f"int f{it}(int n) {{ volatile int kept[{it % 7 + 1}]; kept[0] = n; return kept[0] + n; }}\n" for it in range(999)) + """
+int go(int (*f)(int), int n) { volatile int kept = n; return f(n) + kept; }
+"""
+THROUGH_LIBRARIES = """
+#include <dlfcn.h>
+#include <pthread.h>
+#include <stdlib.h>
+#include <unistd.h>
+static int (*through[64])(int (*)(int), int);
+static int count;
+static pthread_t first;
+static pthread_barrier_t all_called;
+static int call(int n)
+{
+    if (n == 0) {
+        pthread_barrier_wait(&all_called);
+        if (pthread_self() == first)
+            abort();
+        pause();
+    }
+    return through[n % count](call, n - 1) + 1;
+}
+static void *run(void *unused) { call(60); return unused; }
+int main(int words, char **names)
+{
+    pthread_t thread;
+    first = pthread_self();
+    for (count = 0; count + 1 < words; count++)
+        through[count] = (int (*)(int (*)(int), int))dlsym(dlopen(names[count + 1], RTLD_NOW), "go");
+    pthread_barrier_init(&all_called, 0, 16);
+    for (int i = 1; i < 16; i++)
+        pthread_create(&thread, 0, run, 0);
+    return call(60);
+}
 """
 
 
@@ -130,6 +167,26 @@ def made(tool):
     shutil.rmtree(OUT)
 
 
+def whole_process(tool):
+    """Walks a process of 16 threads through all its files."""
+    libraries = [out(f"lib{it}.so") for it in range(37)]
+    made = compiled(LIBRARY, libraries[0], "-shared", "-fPIC") and compiled(THROUGH_LIBRARIES, out("through"), "-pthread")
+    for library in libraries[1:] if made else ():
+        shutil.copyfile(libraries[0], library)
+    process = stopped(out("through.core"), out("through"), *libraries) if made and shutil.which("gdb") else None
+    if process is None:
+        say("No core file of a process can be had here: that wants a C compiler and gdb.")
+        return
+    name = f"sf_tool procbacktrace, {len(process.files)} files and {len(process.frames)} threads"
+    commands = [Command(name, tool, "procbacktrace", process.core, "1024", *process.files)]
+    if shutil.which("eu-stack"):
+        commands.append(Command("eu-stack, the same process", "eu-stack", "-n", "0", "--core", process.core))
+    times = measure(commands, OUTPUT)
+    say(speed(times[name], sum(map(len, process.lines.values())), "frames"))
+    if len(times) == 2:
+        compare("procbacktrace", times[name], "eu-stack", times["eu-stack, the same process"])
+
+
 def core(tool):
     say("Processor time of walks (the least of seven), and peak memory")
     say()
@@ -160,6 +217,7 @@ def core(tool):
         measure(commands, OUTPUT)
     else:
         say("No core file of a program can be had here: that wants a static C library, and gdb.")
+    whole_process(tool)
     shutil.rmtree(OUT)
 
 

@@ -166,6 +166,9 @@ class Reader:
         if key in ("file", "leaves") and len(words) in (1, 2):
             self.begin_bytes(case.files if key == "file" else case.leaves, words)
             return True
+        if key == "rawfile" and len(words) > 1:
+            self.begin_bytes(case.files, [os.fsdecode(hex_bytes(words[1:])), words[0]])
+            return True
         self.open = None
         if key == "words":
             case.words = (case.words or []) + [word.encode() for word in words]

@@ -19,13 +19,13 @@ import os
 import subprocess
 import tempfile
 
-from kiblawen import cases, common, program
+from kiblawen import cases, common, inputs, program
 
 SECONDS = 60
 # Bounds between the least that a run starts with and what it needs.
 BOUNDS = 8
-# The functions, threads and frames of the runs with a bound.
-FUNCTIONS, THREADS = 20000, 500
+# The functions, threads and frames of the runs with a bound, and the bytes of the file with signal frames.
+FUNCTIONS, THREADS, SIGNALS = 20000, 500, 1 << 20
 # The call with the number REFUSE gets no memory, and makes the file REFUSED; nor do those after it where there is REFUSE_REST.
 REFUSING = r"""
 #include <errno.h>
@@ -142,6 +142,8 @@ def large_runs(tool, room):
     yield b"verify s@0x50000000 eh-amd64:e@0x40000000", {**of_inputs, **of_section}
     yield b"walk s@0x50000000 c 64", {"c": core, **of_section}
     yield b"backtrace o@0x50000000 c 64 eh-amd64:e@0x40000000", {"c": core, **of_inputs}
+    words, files = inputs.backtrace_over_signals(SIGNALS)
+    yield " ".join(words).encode(), files
     yield b"gen %d" % FUNCTIONS, {}
 
 

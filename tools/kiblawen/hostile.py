@@ -128,6 +128,12 @@ INPUTS = {
     "executables_over_falling_segments": USUAL,
     "notes_of_a_module": USUAL,
     "loads_and_notes_of_a_module": USUAL,
+    "backtrace_over_signals": USUAL,
+    "deep_backtrace": USUAL,
+    "backtrace_with_long_names": USUAL,
+    "backtrace_of_many_files": USUAL,
+    "backtrace_of_one_file_again": USUAL,
+    "backtrace_past_other_files": USUAL,
 }
 
 

@@ -570,12 +570,12 @@ def backtrace_in_a_long_function(size):
 
 
 # ---- processes
-def shared_object(content, address, segments=(), front=b""):
+def shared_object(content, address, segments=(), front=b"", name=b".sframe"):
     """A shared object of one segment from address 0 on, with this section at this address. Further segments have a kind, flags, a place in the file,
     an address, and a size in the file and in memory; after their headers there may be other bytes."""
     count = 1 + len(segments)
     place = 64 + 56 * count + len(front)
-    names = b"\0.sframe\0"
+    names = b"\0" + name + b"\0"
     headers = place + len(content) + len(names)
     headers += -headers % 8
     made = bytearray(struct.pack("<4sBBB9xHHIQQQIHHHHHH", b"\x7fELF", 2, 1, 1, 3, 62, 1, 0, 64, headers, 0, 64, 56, min(count, PN_XNUM), 64, 3, 2))
@@ -699,6 +699,71 @@ def loads_and_notes_of_a_module(size):
     segments += [(PT_NOTE, 4, place, last, len(build), len(build))] * count
     entries = [OWN, (last - place % 4096, last + 4096, b"m", place // 4096)]
     return process(entries, shared_object(ONE_FUNCTION, 0x100000, segments, build), 1, falling(count) + [(PT_LOAD, last, build)])
+
+
+# ---- processes of which the files have call frame information
+# Where the files have it.
+EH_FRAME = 0x100000
+# The augmentation of a signal frame. The CFA is saved at the stack pointer, the return address 8 bytes above it, the frame pointer where the CFA is.
+SIGNAL_CIE = bytes([1]) + b"zRS\0" + bytes([1, 0x78, 16, 1, 0x1B, 0x0F, 3, 0x77, 0, 6, 0x10, 16, 2, 0x77, 8, 0x10, 6, 2, 0x77, 0])
+
+
+def described(cie, size):
+    """A file with this common information entry and functions of 16 bytes from 0x1000 on, and how many these are."""
+    first = record(0, cie)
+    functions = entries(size, len(first), 0x1000 - EH_FRAME, [0])
+    return shared_object(first + functions + bytes(4), EH_FRAME, name=b".eh_frame"), len(functions) // 20
+
+
+def backtrace(names, files, memory, depth=64):
+    """Walks through these files with a core file's notes and memory."""
+    return ["procbacktrace", "CORE", str(depth), *names], {"CORE": core(memory), **files}
+
+
+def backtrace_over_signals(size):
+    """Threads in the last of many signal frames, at each of which what was interrupted is the same frame again."""
+    module, count = described(SIGNAL_CIE, size)
+    pc = 0x1000 + 16 * (count - 1) + 5
+    notes = mapped([(0, 1 << 32, b"m")]) + threads(min(4096, size // 4096), pc)
+    return backtrace(["m"], {"m": module}, [(PT_NOTE, 0, notes), (PT_LOAD, 0x7010, struct.pack("<QQ", 0x7010, pc))], 1024)
+
+
+def deep_backtrace(size):
+    """Walks of 1024 frames, the most that are listed."""
+    module, _ = described(CIE, 24)
+    notes = mapped([OWN]) + threads(min(4096, size // 8192))
+    return backtrace(["m"], {"m": module}, [(PT_NOTE, 0, notes), stack()], 1024)
+
+
+def backtrace_with_long_names(size):
+    """Frames in a file whose name has 250 bytes, each of which is shown by four."""
+    name = "\x01" * 250
+    module, _ = described(CIE, 24)
+    notes = mapped([(*OWN[:2], name.encode())]) + threads(min(4096, size // 16384))
+    return backtrace([name], {name: module}, [(PT_NOTE, 0, notes), stack()])
+
+
+def backtrace_of_many_files(size):
+    """512 files with functions, each with an entry of its own, and threads in the last."""
+    module, _ = described(CIE, size // 512)
+    files = {"m%d" % at: module for at in range(512)}
+    places = [(at << 32, (at << 32) + 0x2000, name.encode()) for at, name in enumerate(files)]
+    notes = mapped(places) + threads(1000, (511 << 32) + 0x1005)
+    return backtrace(files, files, [(PT_NOTE, 0, notes), stack((511 << 32) + 0x1005)])
+
+
+def backtrace_of_one_file_again(size):
+    """A file with functions that is given 512 times."""
+    module, _ = described(CIE, size // 512)
+    return backtrace(["m"] * 512, {"m": module}, [(PT_NOTE, 0, mapped([OWN]) + threads(1000)), stack()])
+
+
+def backtrace_past_other_files(size):
+    """Entries of other names, which overlap and hold the threads' addresses first, and files of these names that the process had not mapped."""
+    module, _ = described(CIE, 24)
+    others = [(0x100000 + 4096 * at, 1 << 40, b"x%d" % at) for at in range(size // 32)]
+    files = {"m": module, **{"y%d" % at: b"" for at in range(511)}}
+    return backtrace(files, files, [(PT_NOTE, 0, mapped(others + [OWN]) + threads(1000)), stack()])
 
 
 def main(name, size, folder):

@@ -1,7 +1,7 @@
-"""Processes that make the choice of a file's mapping hard, walked by `procwalk`, by gdb and, if available, by eu-stack.
+"""Processes that make the choice of a file's mapping hard, walked by `procwalk` and `procbacktrace`, by gdb and, if available, by eu-stack.
 
-Each is a program that is made here; gdb stops it and makes a core file. `procwalk` gets the program and its libraries, each with its section. It
-lists the same frames as the others, or the files are refused as Ambiguous, Build or Mapping.
+Each is a program that is made here; gdb stops it and makes a core file. The commands get the program and its libraries, each with its section. They
+list the same frames as the others, or the files are refused as Ambiguous, Build or Mapping.
 """
 
 import os
@@ -11,6 +11,7 @@ import subprocess
 
 from kiblawen import common
 from kiblawen.program import linked
+from kiblawen.stopping import NO_CORE, compiled, in_words, listed, stopped
 
 # The process has read the first LENGTH bytes of its C library, by a mapping a little lower than those of the library's segments.
 READS_LIBRARY = """
@@ -58,13 +59,6 @@ int go(int (*f)(void)) { volatile char room[ROOM]; room[0] = 1; room[ROOM - 1] =
 REFUSED = re.compile(r"refused \d+ module (Ambiguous|Build|Mapping)$")
 
 
-def compiled(source, path, *options):
-    """Whether the machine's C compiler made this file."""
-    os.makedirs(os.path.dirname(path), exist_ok=True)
-    words = ["cc", "-x", "c", "-w", "-O1", "-fasynchronous-unwind-tables", "-Wl,--build-id", *options, "-o", path, "-", "-ldl"]
-    return subprocess.run(words, input=source.encode(), capture_output=True, check=False).returncode == 0
-
-
 def quoted(name, path):
     return f'-D{name}="{path}"'
 
@@ -82,31 +76,26 @@ def with_section(tool, path, folder):
     return copy
 
 
-def stopped(program):
-    """The core file of a program that stops, or none; and the program counters that gdb and eu-stack show."""
-    core = program + ".core"
-    commands = ["set confirm off", "set backtrace past-main on", "run", f"generate-core-file {core}", "backtrace"]
-    shown = {"gdb": common.output("gdb", "-nx", "-batch", *(word for it in commands for word in ("-ex", it)), program) or ""}
-    if not os.path.exists(core):
-        return None, {}
-    if shutil.which("eu-stack"):
-        shown["eu-stack"] = common.output("eu-stack", "--core", core, status=(0, 1)) or ""
-    return core, {name: [int(it, 16) for it in re.findall(r"^#\d+ +(0x\w+)", said, re.MULTILINE)] for name, said in shown.items()}
-
-
-def compare(found, tool, name, core, peers, files):
-    ran = subprocess.run([tool, "procwalk", core, "64", *files], stdin=subprocess.DEVNULL, capture_output=True, timeout=common.SECONDS, check=False)
+def compare_walks(found, tool, command, name, process, files):
+    words = [tool, command, process.core, "64", *files]
+    ran = subprocess.run(words, stdin=subprocess.DEVNULL, capture_output=True, timeout=common.SECONDS, check=False)
     said = ran.stderr.decode(errors="replace").strip()
-    ours = [int(it, 16) for it in re.findall(r"#\d+ pc (0x\w+)", ran.stdout.decode())]
+    ours = listed(ran.stdout.decode())
     if ran.returncode == 5 and REFUSED.match(said):
         found.count("processes whose files are refused")
     elif ran.returncode != 0:
-        found.differs(f"{name}: status {ran.returncode}, {said}")
+        found.differs(f"{name}: {command} ends with status {ran.returncode}, {said}")
     else:
-        for peer, frames in peers.items():
-            found.count(f"frames of processes by {peer}", len(frames))
-            if not frames or ours != frames:
-                found.differs(f"{name}: procwalk has {[hex(it) for it in ours]}, and {peer} shows {[hex(it) for it in frames]}")
+        for peer, threads in process.peers().items():
+            found.count(f"frames of processes by {peer}", sum(map(len, threads.values())))
+            if not threads or ours != threads:
+                found.differs(f"{name}: {command} has {in_words(ours)}, and {peer} shows {in_words(threads)}")
+
+
+def compare(found, tool, name, process, files):
+    # `procbacktrace` has no use for the sections.
+    for command in "procwalk", "procbacktrace":
+        compare_walks(found, tool, command, name, process, files)
 
 
 def reads_library(found, tool, room, library):
@@ -114,11 +103,11 @@ def reads_library(found, tool, room, library):
         program = os.path.join(room, "reads", "reads")
         if not compiled(READS_LIBRARY, program, quoted("LIBRARY", library), f"-DLENGTH={length}"):
             return "the C compiler makes no program"
-        core, peers = stopped(program)
-        if core is None:
-            return "gdb makes no core file here"
+        process = stopped(program + ".core", program)
+        if process is None:
+            return NO_CORE
         files = [with_section(tool, it, os.path.join(room, "reads", "with")) for it in (program, library)]
-        compare(found, tool, f"a library of which {name} was mapped as data as well", core, peers, files)
+        compare(found, tool, f"a library of which {name} was mapped as data as well", process, files)
     return None
 
 
@@ -128,9 +117,9 @@ def alike_names(found, tool, room, library):
     made = [compiled(GO, path, "-shared", "-fPIC", f"-DROOM={size}") for path, size in ((one, 1000), (two, 328))]
     if not all(made + [compiled(CALLS, program, quoted("FIRST", one), quoted("SECOND", two))]):
         return "the C compiler makes no library"
-    core, peers = stopped(program)
-    if core is None:
-        return "gdb makes no core file here"
+    process = stopped(program + ".core", program)
+    if process is None:
+        return NO_CORE
     # Below the folders of their names, and of others.
     for names in ("one", "two"), ("former", "latter"):
         folder = os.path.join(place, "with")
@@ -138,7 +127,7 @@ def alike_names(found, tool, room, library):
         libraries = [with_section(tool, path, os.path.join(folder, name)) for path, name in zip((one, two), names)]
         for order in libraries, libraries[::-1]:
             shown = " ".join(os.path.relpath(it, folder) for it in order)
-            compare(found, tool, f"two libraries of one name: {shown}", core, peers, others + order)
+            compare(found, tool, f"two libraries of one name: {shown}", process, others + order)
     return None
 
 
@@ -148,13 +137,13 @@ def another_build(found, tool, room, library):
     made = [compiled(GO, path, "-shared", "-fPIC", f"-DROOM={size}") for path, size in ((ran, 1000), (later, 1016))]
     if not all(made + [compiled(CALLS, program, quoted("FIRST", ran), quoted("SECOND", ran))]):
         return "the C compiler makes no library"
-    core, peers = stopped(program)
-    if core is None:
-        return "gdb makes no core file here"
+    process = stopped(program + ".core", program)
+    if process is None:
+        return NO_CORE
     folder = os.path.join(place, "with")
     others = [with_section(tool, it, folder) for it in (program, library)]
     for name, path in ("the build that ran", ran), ("another build of a library", later):
-        compare(found, tool, name, core, peers, others + [with_section(tool, path, os.path.join(folder, os.path.basename(os.path.dirname(path))))])
+        compare(found, tool, name, process, others + [with_section(tool, path, os.path.join(folder, os.path.basename(os.path.dirname(path))))])
     return None
 
 

@@ -6,7 +6,7 @@
 First run `./x release`. It needs the rights of root for chroot, and gdb and a C compiler for a core file. The copies of a root are links
 to its files, in a temporary folder beside it, so they take little room. ROOT gets lines in dpkg's log.
 
-The package kiblawen: README's example, kiblawen-add on its program, and procwalk on a core file that is copied in, beside gdb; then it is
+The package kiblawen: README's example, kiblawen-add on its program, procwalk and procbacktrace on a core file that is copied in, beside gdb; then it is
 removed.
 The packages libkiblawen0 and libkiblawen-dev: the program of docs/library.md, built by pkg-config, walks a sample with a table that is
 copied in: with the archive, and with the shared library, also after libkiblawen-dev is removed.
@@ -27,7 +27,7 @@ import subprocess
 import sys
 import tempfile
 
-from kiblawen import common, module, processes, program, release, shared, staging
+from kiblawen import common, module, program, release, shared, staging, stopping
 
 SUITE = "bookworm"
 DEBOOTSTRAP = ["debootstrap", "--variant=minbase", "--include=gcc,libc6-dev,binutils,pkgconf,python3,clang-19", SUITE]
@@ -183,20 +183,24 @@ def try_add(tries, root, name):
     tries.check(f"{name}: kiblawen-add adds a table, which strip keeps, to a program that still runs", passed, f"status {status}\n{said}")
 
 
-def try_procwalk(tries, root, name, room):
-    """A core file of this machine, walked in the root with the tables of the files that the process had mapped."""
+def try_process(tries, root, name, room):
+    """A core file of this machine, walked in the root with the files that the process had mapped, and with their tables."""
     sorts = os.path.join(room, "sorts")
     library = os.path.realpath((common.output("cc", "-print-file-name=libc.so.6") or "").strip()) if shutil.which("cc") else ""
-    core, peers = processes.stopped(sorts) if shutil.which("gdb") and library and processes.compiled(SORTS, sorts) else (None, {})
-    if core is None:
+    process = stopping.stopped(f"{sorts}.core", sorts) if shutil.which("gdb") and library and stopping.compiled(SORTS, sorts) else None
+    if process is None:
         tries.skip(f"{name}: procwalk", "there is no gdb with a C compiler here that makes a core file")
         return
-    root.copy(core, sorts, library)
-    status, said = root.run(WITH.replace("FILES", f"sorts {os.path.basename(library)}") + "sf_tool procwalk sorts.core 64 with/*")
-    frames = [int(it, 16) for it in re.findall(r"#\d+ pc (0x\w+)", said)]
-    for peer, theirs in peers.items():
-        passed = status == 0 and frames == theirs != []
-        tries.check(f"{name}: procwalk lists the {len(theirs)} frames of {peer}", passed, f"status {status}\n{said}")
+    root.copy(process.core, sorts, library)
+    files = f"sorts {os.path.basename(library)}"
+    for command, script in ("procwalk", WITH.replace("FILES", files) + "sf_tool procwalk sorts.core 64 with/*"), (
+        "procbacktrace", f"sf_tool procbacktrace sorts.core 64 {files}",
+    ):
+        status, said = root.run(script)
+        frames = stopping.listed(said)
+        for peer, theirs in process.peers().items():
+            passed = status == 0 and frames == theirs != {}
+            tries.check(f"{name}: {command} lists the {sum(map(len, theirs.values()))} frames of {peer}", passed, f"status {status}\n{said}")
 
 
 def try_tool(tries, root, path, room):
@@ -206,7 +210,7 @@ def try_tool(tries, root, path, room):
     tries.check(f"kiblawen: {name} is installed, and its files are whole", *root.ends_well(f"dpkg -i {name} && dpkg --verify kiblawen"))
     try_example(tries, root, "kiblawen")
     try_add(tries, root, "kiblawen")
-    try_procwalk(tries, root, "kiblawen", room)
+    try_process(tries, root, "kiblawen", room)
     removed = "dpkg -P kiblawen && [ -z \"$(find /usr /etc -name '*kiblawen*' -o -name 'sf_tool*')\" ]"
     tries.check("kiblawen: nothing is left after it is removed", *root.ends_well(removed))
 

@@ -12,10 +12,12 @@ What is compared:
 - sections: functions and rows with what `objdump --sframe` shows for the same section, if this objdump reads this version;
 - assembled sections: with the `.sframe` that `as --gsframe` writes, if this assembler writes this version;
 - walks: the program counters of a core file's thread with those that gdb and eu-stack show, if available;
-- processes: the program counters from `procwalk` with those of gdb and eu-stack, if a file was also mapped as data, two files have one name, or
-  one is another build (processes.py).
+- processes: the program counters from `procwalk` and `procbacktrace` with those of gdb and eu-stack, if a file was also mapped as data, two files
+  have one name, or one is another build (processes.py);
+- whole processes: those from `procbacktrace` through a handler of a signal, an exception, a panic, the threads of Python, and git (stacks.py).
 
-A comparison that this machine cannot make is named, with the reason. Each difference has a line; the status is 1 if there is one.
+A comparison that this machine cannot make is named, with the reason. Each difference has a line; the status is 1 if there is one. A walk that
+ends before that of eu-stack has a line with the cause.
 """
 
 import concurrent.futures
@@ -25,7 +27,7 @@ import shutil
 import subprocess
 import tempfile
 
-from kiblawen import common, elf, processes, program
+from kiblawen import common, elf, processes, program, stacks
 
 # The registers of the two machines, as readelf names them, and the return address column.
 STACK, FRAME, COLUMN = {"amd64": "rsp", "aarch64": "sp"}, {"amd64": "rbp", "aarch64": "x29"}, {"amd64": 16, "aarch64": 30}
@@ -52,10 +54,10 @@ int main(void) { return deep(5); }
 
 
 class Found:
-    """What was compared, and the differences."""
+    """What was compared, the differences, and the walks that end before another's."""
 
     def __init__(self):
-        self.counts, self.differences, self.passed_over = {}, [], []
+        self.counts, self.differences, self.passed_over, self.fewer = {}, [], [], []
 
     def count(self, what, number=1):
         self.counts[what] = self.counts.get(what, 0) + number
@@ -308,10 +310,13 @@ def main(words):
             compare_assembled(found, tool, room)
             compare_walks(found, tool, room)
             processes.compare_processes(found, tool, room)
+            stacks.compare_stacks(found, tool, room)
     for what, number in sorted(found.counts.items()):
         print(f"{number:>10} {what}")
     for line in found.passed_over:
         print(f"not compared: {line}")
+    for line in found.fewer:
+        print(f"fewer frames: {line}")
     for line in found.differences[:100]:
         print(f"DIFFERS {line}")
     print(f"{len(found.differences)} differences")
