@@ -40,7 +40,7 @@ pub all_held : (file : List ℕ) (i : ℕ) (spans : List (Span ℕ)) → segment
 all_held file i spans le h = let len = segments-length file in h ∙ ap (holdings 0) (take_all i (segments file) (omega (len, le, arith)))
 
 -- ---- the addresses of a segment
-held : (start len address : ℕ) → (nat_le start address && nat_lt address (start + (len - 7))) ≡ (nat_le start address && nat_le (address + 8) (start + len))
+pub held : (start len address : ℕ) → (nat_le start address && nat_lt address (start + (len - 7))) ≡ (nat_le start address && nat_le (address + 8) (start + len))
 held start len address =
     elim (cases_lt address start) [
       | inl before ↦ ap (λ (b : Bool). b && nat_lt address (start + (len - 7))) (lt-leb start address before) ∙ sym (ap (λ (b : Bool). b && nat_le (address + 8) (start + len)) (lt-leb start address before))

@@ -76,7 +76,7 @@ in_segment file h (p ∷ ps) address r are e = by_place (lies_within h p) refl e
     by_eight true eight lies f later =
         let same : part_region h p ≡ r = cc in
         subst (SameEight address (region_in file h)) same
-        (in_file file h p address (are 0 p (omega arith)) (has_eight address h p (two_true (lies_within h p) (holds_eight address (part_region h p)) lies eight)))
+        (in_file file h p address (are 0 p (omega arith)) (has_eight address h p lies eight))
     by_eight false eight lies f later = later f
 
     by_place : (b : Bool) → lies_within h p ≡ b

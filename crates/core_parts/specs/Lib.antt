@@ -1,7 +1,9 @@
 pub mod Heads
 pub mod Read
+pub mod PartMemory
 pub mod CoreHeader
 pub mod Table
 pub mod Whole
+pub mod Partial
 pub mod Loaded
 pub mod Walked

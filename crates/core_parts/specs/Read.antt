@@ -1,15 +1,16 @@
 -- The memory of a core file, as far as parts of the file were read (ELF64 gABI, "Program Header", PT_LOAD).
-use Rattle.std.specs.Prelude.{ℕ, ◌+◌, ◌-◌, Bool, ◌&&◌, nat_le, List, [], length, map, if◌then◌else◌}
+use Rattle.std.specs.Prelude.{◌+◌, ◌-◌, ◌^◌, Bool, ◌&&◌, nat_le, nat_lt, List, [], length, map, if◌then◌else◌}
 use Rattle.std.specs.List.{filter, flat_map}
 use Rattle.sf_bytes.specs.declared.file_part.FilePart.{FilePart}
-use Rattle.sf_model.specs.Memory.{Region, holds_eight}
-use Rattle.core_parts.specs.declared.memory.PartMemory.{PartMemory}
+use Rattle.sf_lookup.specs.declared.span.Span.{Span}
+use Rattle.sf_model.specs.Memory.{Region}
+use Rattle.core_parts.specs.declared.memory.Block.{Block}
 use Rattle.core_parts.specs.declared.segment.SegmentHead.{SegmentHead}
 use Rattle.core_parts.specs.Heads.{is_memory}
 
--- a part of the file lies in the segment
+-- the part of the file lies in the segment, at an address below 2^64
 abbrev pub lies_within : SegmentHead → FilePart → Bool
-lies_within h p = nat_le h.place p.place && nat_le (p.place + length p.bytes.items) (h.place + h.size)
+lies_within h p = nat_le h.place p.place && (nat_le (p.place + length p.bytes.items) (h.place + h.size) && nat_lt (h.vaddr + (p.place - h.place)) (2 ^ 64))
 
 -- such a part, at the address that it has in the segment
 abbrev pub part_region : SegmentHead → FilePart → Region
@@ -23,11 +24,11 @@ regions_of parts h = if is_memory h then map (part_region h) (filter (lies_withi
 abbrev pub regions_read : List SegmentHead → List FilePart → List Region
 regions_read heads parts = flat_map (regions_of parts) heads
 
--- the memory as far as it was read
-abbrev pub part_regions : PartMemory → List Region
-part_regions m = regions_read m.heads.now m.parts.now
+-- ---- what was read, as the code has it
+abbrev pub block_region : Block → Region
+block_region b = record { start = b.start; bytes = b.bytes.now }
 
 -- ---- Inside the crate
--- the part lies in the segment, and has the eight bytes from an address on
-abbrev pub part_holds : (address : ℕ) → SegmentHead → FilePart → Bool
-part_holds address h p = lies_within h p && holds_eight address (part_region h p)
+-- the addresses from which on a block holds eight bytes, which lead to it
+abbrev pub block_span : Block → Span Block
+block_span b = record { start = b.start; size = length b.bytes.now - 7; leads_to = b }

@@ -1,6 +1,6 @@
 //! A core file of which parts were read.
 
-ghost use Rattle.std.specs.Prelude.{◌≡◌, ℕ, List, Ok, true, map, IfOk, IfSome};
+ghost use Rattle.std.specs.Prelude.{◌≡◌, ◌≤◌, ℕ, List, Ok, true, map, length, IfOk, IfSome};
 ghost use Rattle.elf_read.specs.Header as header;
 ghost use Rattle.core_notes.specs.Checks.{core_check, file_threads};
 ghost use Rattle.core_notes.specs.Segment.{segments};
@@ -9,11 +9,12 @@ ghost use Rattle.core_parts.specs.Whole.{IsWholeOf};
 
 use crate::core_head::{CoreHead, head_of};
 use crate::memory::PartMemory;
+use crate::segment::heads_hold;
 use core_notes::Thread;
 use sf_base::NoMemory;
 use sf_model::Arch;
 use sf_parts::FileParts;
-use std::alloc::Global;
+use std::alloc::{AllocError, Global};
 
 /// A core file that passes every check of a whole file, of which parts were read.
 #[derive(Drop)]
@@ -26,6 +27,7 @@ pub struct CoreParts {
     ghost machine: { (whole : List ℕ) → IsWholeOf file whole → header.arch_of whole ≡ head.arch },
     ghost segments_are: { (whole : List ℕ) → IsWholeOf file whole → segments whole ≡ map (segment_in whole) head.heads.items },
     ghost threads_are: { (whole : List ℕ) → IsWholeOf file whole → file_threads whole ≡ head.threads.items },
+    ghost few: { length head.threads.items ≤ 4096 },
     ghost lie: { heads_lie file.len head.heads.items ≡ true },
     ghost rise: { heads_rise 0 head.heads.items ≡ true },
 }
@@ -54,7 +56,7 @@ impl CoreParts {
     ghost use Rattle.sf_model.specs.Memory.{read_eight};
     ghost use Rattle.core_notes.specs.Memory.{file_regions};
     ghost use Rattle.core_walk.specs.PartWalk.{IsPartOf};
-    ghost use Rattle.core_parts.specs.Read.{part_regions};
+    ghost use Rattle.core_parts.specs.PartMemory.{part_regions};
 
     /// Returns the machine that the file is for.
     pub fn arch(&self) -> Arch
@@ -65,26 +67,26 @@ impl CoreParts {
 
     /// Returns the threads, in the order of their notes.
     pub fn threads(&self) -> &[Thread]
-        ensures { (whole : List ℕ) → IsWholeOf self.now.file whole → result.now ≡ file_threads whole }
+        ensures few { length result.now ≤ 4096 }
+        ensures are { (whole : List ℕ) → IsWholeOf self.now.file whole → result.now ≡ file_threads whole }
     {
         &self.head.threads
     }
 
     /// Returns the memory, as far as it was read.
-    pub fn memory(&self) -> PartMemory<'_>
-        ensures heads { result.heads.now ≡ self.now.head.heads.items }
-        ensures part { (whole : List ℕ) → IsWholeOf self.now.file whole → IsPartOf (part_regions result) (file_regions whole) }
+    ///
+    /// `AllocError` if out of memory.
+    pub fn memory(&self, alloc: Global) -> Result<PartMemory<'_>, AllocError>
+        ensures { IfOk result (λ memory. (whole : List ℕ) → IsWholeOf self.now.file whole → IsPartOf (part_regions memory) (file_regions whole)) }
     {
-        PartMemory {
-            heads: &self.head.heads,
-            parts: &self.file.parts,
-        }
+        let memory = PartMemory::new(alloc, &self.head.heads, &self.file.parts)?;
+        Ok(memory)
     }
 
     /// Returns whether the whole memory has the eight bytes from an address on, read or not.
     pub fn holds(&self, address: u64) -> bool
         ensures { (whole : List ℕ) → IsWholeOf self.now.file whole → result ≡ is_some (read_eight (file_regions whole) address) }
     {
-        self.memory().holds(address)
+        heads_hold(&self.head.heads, address)
     }
 }

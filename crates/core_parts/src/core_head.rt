@@ -1,6 +1,6 @@
 //! What the headers and the notes of a core file say.
 
-ghost use Rattle.std.specs.Prelude.{◌≡◌, ℕ, List, true, IfOk, IfSome};
+ghost use Rattle.std.specs.Prelude.{◌≡◌, ◌≤◌, ℕ, List, true, length, IfOk, IfSome};
 ghost use Rattle.sf_bytes.specs.Parts.{IsPart};
 ghost use Rattle.core_notes.specs.Views.{threads_left};
 ghost use Rattle.core_parts.specs.Heads.{heads_lie, heads_rise};
@@ -28,6 +28,9 @@ pub struct CoreHead {
     pub threads: Vec<Thread>,
 }
 
+// A core file has no more threads.
+const MAX_THREADS: usize = 4096;
+
 // Returns the threads that an iterator has left.
 fn listed(alloc: Global, threads: ThreadIter<'_>) -> Result<Vec<Thread>, NoMemory>
     ensures { IfOk result (λ list. list.items ≡ threads_left threads.entry) }
@@ -42,7 +45,8 @@ fn threads_of(
     heads: &[SegmentHead],
     notes: &FilePart,
 ) -> Result<Option<Vec<Thread>>, NoMemory>
-    ensures { IfOk result (λ found. IfSome found (λ threads. AreThreads arch heads.now notes.now threads.items)) }
+    ensures are { IfOk result (λ found. IfSome found (λ threads. AreThreads arch heads.now notes.now threads.items)) }
+    ensures few { IfOk result (λ found. IfSome found (λ threads. length threads.items ≤ 4096)) }
 {
     let Some(note) = only_note(heads) else {
         return Ok(None);
@@ -54,10 +58,14 @@ fn threads_of(
     let Some(_) = notes.place.checked_add(size) else {
         return Ok(None);
     };
-    match threads_of_segment(arch, Part::new(&notes.bytes, notes.place)) {
-        Some(threads) => Ok(Some(listed(alloc, threads)?)),
-        None => Ok(None),
+    let Some(threads) = threads_of_segment(arch, Part::new(&notes.bytes, notes.place)) else {
+        return Ok(None);
+    };
+    let threads = listed(alloc, threads)?;
+    if threads.len() > MAX_THREADS {
+        return Ok(None);
     }
+    Ok(Some(threads))
 }
 
 // Returns what these parts of a core file say: its file header, its program headers and its one segment of notes.
@@ -69,6 +77,7 @@ fn head_by(
     len: u64,
 ) -> Result<Option<CoreHead>, NoMemory>
     ensures head { IfOk result (λ found. IfSome found (λ head. AreRead header.now table.now notes.now len head)) }
+    ensures few { IfOk result (λ found. IfSome found (λ head. length head.threads.items ≤ 4096)) }
 {
     if header.place != 0 || header.bytes.len() as u64 != FILE_HEADER_LEN {
         return Ok(None);
@@ -103,6 +112,7 @@ fn part_at(file: &FileParts, number: usize) -> Option<&FilePart>
 /// `NoMemory`.
 pub fn head_of(alloc: Global, file: &FileParts) -> Result<Option<CoreHead>, NoMemory>
     ensures head { IfOk result (λ found. IfSome found (λ head. (whole : List ℕ) → IsWholeOf file.now whole → IsHeadOf head whole)) }
+    ensures few { IfOk result (λ found. IfSome found (λ head. length head.threads.items ≤ 4096)) }
     ensures lie { IfOk result (λ found. IfSome found (λ head. heads_lie file.now.len head.heads.items ≡ true)) }
     ensures rise { IfOk result (λ found. IfSome found (λ head. heads_rise 0 head.heads.items ≡ true)) }
 {

@@ -1,19 +1,20 @@
 //! Core files of which parts are read (ELF64 gABI, "Program Header"; Linux core files).
 //!
 //! [`load_core`] reads of a core file its file header, its program headers and its notes, if it is clear that these are
-//! enough for every check of the whole file and for its threads; else the whole file. [`walk_reading`] walks a thread, and
-//! reads of the memory the blocks of 65,536 bytes that the walk needs. [`walk_parts`] walks by what was read.
+//! enough for every check of the whole file and for its threads, and of its memory the blocks of 65,536 bytes at the
+//! threads' stack pointers and at addresses that are given; else the whole file. [`walk_parts`] walks a thread by what was
+//! read, or says at which address it needs more.
 //!
 //! [`core_of`] makes the checks by parts that are given. [`PartMemory`] is the memory as far as parts of the file were
-//! read: a [`sf_model::Memory`] that gives none for what wasn't. [`PartMemory::holds`] says whether the whole memory has
+//! read: a [`sf_model::Memory`] that gives none for what wasn't. [`PartialCore::holds`] says whether the whole memory has
 //! the bytes that a read didn't give.
 //!
-//! Nothing of the file that wasn't read is kept, also not for clauses: what is said of the file is said of each list of
-//! bytes of which these are parts (`specs/Whole.antt`). The parts of a [`sf_parts::FileParts`] don't overlap, so there is
-//! one. What was said stays true when more is read.
+//! Clauses about a [`CoreParts`] are about each list of bytes of which these are parts (`specs/Whole.antt`), those about a
+//! [`PartialCore`] about one of them: what the file holds, if that is known (`specs/Partial.antt`). The parts of a
+//! [`sf_parts::FileParts`] don't overlap, so there is one.
 //!
-//! The caller owes that the file doesn't change between two reads. A file has up to 2^64 bytes. A read of memory looks
-//! through the segments, and in the one that has the address through all parts.
+//! The caller owes that the file doesn't change between two reads. A file has up to 2^64 bytes. [`PartMemory::new`] goes
+//! over all parts for each segment. A read of memory finds its block by halves.
 #![tactic(auto)]
 
 mod core_file;
@@ -22,6 +23,7 @@ mod header;
 mod laws;
 mod loading;
 mod memory;
+mod partial_core;
 mod reading;
 mod segment;
 mod table;
@@ -30,7 +32,8 @@ mod walking;
 pub use core_file::{CoreParts, core_of};
 pub use core_head::CoreHead;
 pub use laws::memory_of_parts_is_a_part;
-pub use loading::{CoreRead, load_core};
-pub use memory::PartMemory;
+pub use loading::{CoreRead, Wanted, load_core};
+pub use memory::{Block, PartMemory};
+pub use partial_core::PartialCore;
 pub use segment::SegmentHead;
-pub use walking::{Walked, walk_parts, walk_reading};
+pub use walking::{Walked, walk_parts};

@@ -1,16 +1,18 @@
 //! Reads the parts of a core file that its checks and its threads need, or else the whole file.
 
-ghost use Rattle.std.specs.Prelude.{◌≡◌, ◌<◌, ◌≤◌, ℕ, Some, length, IsTrue, IsErrOf, IfOk, IfSome, OnOk};
+ghost use Rattle.std.specs.Prelude.{◌≡◌, ◌<◌, ◌≤◌, ℕ, true, Some, length, IsTrue, IsErrOf, IfOk, IfSome, OnOk};
 ghost use Rattle.sf_base.specs.Contents.{contents_of};
 ghost use Rattle.sf_base.specs.Faults.{Rose};
 ghost use Rattle.sf_base.specs.Seen.{OnlyReads};
 ghost use Rattle.sf_base.specs.declared.loading.LoadFault.TheVariants.{Read, TooLong};
-ghost use Rattle.core_parts.specs.Loaded.{IsLoaded, MayGoOn, core_len};
+ghost use Rattle.core_parts.specs.Loaded.{core_read_bytes, is_whole};
+ghost use Rattle.core_parts.specs.Partial.{partial_file};
 ghost use Rattle.core_parts.specs.Whole.{IsWholeOf};
 
-use crate::core_file::{CoreParts, core_of};
+use crate::core_file::core_of;
 use crate::header::{e_phnum, e_phoff};
-use crate::reading::{Window, read_window};
+use crate::partial_core::PartialCore;
+use crate::reading::{Window, read_window, stack_addresses};
 use crate::segment::PT_NOTE;
 use crate::table::head_at;
 use elf_read::layout::{FILE_HEADER_LEN, PROGRAM_HEADER_LEN};
@@ -18,11 +20,21 @@ use sf_base::{Files, LoadFault, load, load_rest};
 use sf_parts::FileParts;
 use std::alloc::Global;
 
+/// What is to be read of a core file.
+#[derive(Clone, Copy)]
+pub enum Wanted<'a> {
+    /// What its checks and its threads need, and of its memory what there is at the threads' stack pointers and at these
+    /// addresses.
+    Memory(&'a [u64]),
+    /// All of it.
+    Whole,
+}
+
 /// What was read of a core file: parts of it, or all.
 #[derive(Drop)]
 pub enum CoreRead {
-    /// The parts that its checks and its threads need. The file is open, so that more can be read of it.
-    Parts(CoreParts),
+    /// Parts with which it passes every check of the whole file.
+    Parts(PartialCore),
     /// All of it.
     Whole(Vec<u8>),
 }
@@ -98,20 +110,20 @@ fn read_planned<F: Files>(
     }
 }
 
-// Reads the parts of the open file, of this length, that its checks and its threads need. Nothing if it isn't clear that
-// these are enough.
+// Reads the parts of the open file, of this length, that its checks and its threads need, and what the memory has at the
+// threads' stack pointers and at these addresses. Nothing if it isn't clear that these are enough, or if what the memory has
+// at one of the addresses can't be read.
 fn parts_of<F: Files>(
     alloc: Global,
     files: &mut F,
     len: u64,
-) -> Result<Option<CoreParts>, LoadFault>
+    addresses: &[u64],
+) -> Result<Option<PartialCore>, LoadFault>
     requires opened { IsTrue (F.opened files.old) }
     requires len { IfSome ((F.seen files.old).contents) (λ _. len ≡ length (F.whole files.old)) }
     ensures whole { IfOk result (λ found. IfSome found (λ core. IfSome ((F.seen files.old).contents) (λ _.
-        IsWholeOf core.file (F.whole files.old)))) }
-    ensures len { IfOk result (λ found. IfSome found (λ core. core.file.len ≡ len)) }
-    ensures same_file { OnOk result (F.whole files.new ≡ F.whole files.old) }
-    ensures opened { OnOk result (IsTrue (F.opened files.new)) }
+        partial_file core ≡ F.whole files.old))) }
+    ensures len { IfOk result (λ found. IfSome found (λ core. length (partial_file core) ≡ len)) }
     ensures read { IsErrOf result LoadFault.Read →
         Rose ((F.seen files.old).read_faults) ((F.seen files.new).read_faults) }
     ensures failed_name { IsErrOf result LoadFault.Read →
@@ -126,12 +138,20 @@ fn parts_of<F: Files>(
     if !read_planned(alloc, files, &mut parts)? {
         return Ok(None);
     }
-    Ok(core_of(alloc, parts)?)
+    let Some(mut core) = core_of(alloc, parts)? else {
+        return Ok(None);
+    };
+    let stacks = stack_addresses(alloc, core.threads())?;
+    core.read_blocks(alloc, files, &stacks)?;
+    if !core.read_blocks(alloc, files, addresses)? {
+        return Ok(None);
+    }
+    Ok(Some(PartialCore::new(files, core)))
 }
 
-/// Reads of the core file of this name its file header, its program headers and its notes, if the file has at most `limit`
-/// bytes and it is clear that these are enough for its checks and its threads. Else it reads the whole file, as
-/// [`load`](sf_base::load) does; a pipe is not opened twice.
+/// Reads of the core file of this name what is wanted, if the file has at most `limit` bytes and it is clear that these
+/// parts are enough for its checks and its threads. Else it reads the whole file, as [`load`](sf_base::load) does; a pipe
+/// is not opened twice.
 ///
 /// # Errors
 ///
@@ -141,12 +161,13 @@ pub fn load_core<F: Files>(
     files: &mut F,
     name: &str,
     limit: u64,
+    wanted: Wanted<'_>,
 ) -> Result<CoreRead, LoadFault>
     requires { IsTrue (F.may_open files.old name.now) }
     ensures file { IfOk result (λ read. IfSome ((F.seen files.old).contents) (λ told.
-        IsLoaded read (contents_of told name.now))) }
-    ensures within { IfOk result (λ read. core_len read ≤ limit) }
-    ensures open { IfOk result (λ read. MayGoOn (F.opened files.new) ((F.seen files.new).contents) (F.whole files.new) read) }
+        core_read_bytes read ≡ contents_of told name.now)) }
+    ensures within { IfOk result (λ read. length (core_read_bytes read) ≤ limit) }
+    ensures all { IfOk result (λ read. wanted.entry ≡ Wanted.Whole → is_whole read ≡ true) }
     ensures read { IsErrOf result LoadFault.Read →
         Rose ((F.seen files.old).read_faults) ((F.seen files.new).read_faults) }
     ensures failed_name { IsErrOf result LoadFault.Read →
@@ -159,12 +180,15 @@ pub fn load_core<F: Files>(
     ensures reads { OnlyReads (F.seen files.old) (F.seen files.new) }
     ensures same { OnOk result (F.seen files.new ≡ F.seen files.old) }
 {
+    let Wanted::Memory(addresses) = wanted else {
+        return Ok(CoreRead::Whole(load(alloc, files, name, limit)?));
+    };
     files.open_file(name)?;
     let Some(len) = files.len() else {
         return Ok(CoreRead::Whole(load_rest(alloc, files, limit)?));
     };
     if len <= limit {
-        if let Some(core) = parts_of(alloc, files, len)? {
+        if let Some(core) = parts_of(alloc, files, len, addresses)? {
             return Ok(CoreRead::Parts(core));
         }
     }

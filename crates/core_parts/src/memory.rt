@@ -1,109 +1,134 @@
 //! The memory of a core file of which parts were read.
 
-ghost use Rattle.std.specs.Prelude.{◌≡◌, ◌+◌, ◌-◌, length, is_some};
-ghost use Rattle.std.specs.List.{find, list_any};
+ghost use Rattle.std.specs.Prelude.{◌≡◌, ◌+◌, ◌-◌, ◌++◌, Some, None, length, map, if◌then◌else◌, IfOk, OnOk};
 ghost use Rattle.std.specs.Option.{option_map};
-ghost use Rattle.sf_model.specs.Memory.{eight_bytes, holds_eight, read_eight};
-ghost use Rattle.core_parts.specs.Heads as heads_spec;
+ghost use Rattle.std.specs.List.{find};
+ghost use Rattle.sf_lookup.specs.Spans.{InOrder};
+ghost use Rattle.sf_model.specs.Memory.{holds_eight, read_eight};
 ghost use Rattle.core_parts.specs.Read as spec;
+ghost use Rattle.core_parts.specs.Read.{block_region, block_span, part_region};
 
-use crate::segment::{SegmentHead, head_holds};
+use crate::segment::{SegmentHead, is_memory};
 use elf_read::u64_at;
 use sf_bytes::FilePart;
+use sf_lookup::{Span, Spans};
 use sf_model::Memory;
+use std::alloc::{AllocError, Global};
 
-/// The memory of a core file, as far as parts of the file were read. A read of what wasn't gives none.
+/// Bytes that were read of the memory, and the address of the first.
 #[derive(Clone, Copy)]
-pub struct PartMemory<'a> {
-    /// The headers of the segments.
-    pub heads: &'a [SegmentHead],
-    /// The parts of the file.
-    pub parts: &'a [FilePart],
+pub struct Block<'a> {
+    /// The address of the first.
+    pub start: u64,
+    /// The bytes.
+    pub bytes: &'a [u8],
 }
 
-// Returns whether a part of the file lies in the segment.
+/// The memory of a core file, as far as parts of the file were read, put in order for many reads. A read of what wasn't
+/// gives none.
+#[derive(Drop)]
+pub struct PartMemory<'a> {
+    /// What was read of each segment.
+    pub blocks: Vec<Block<'a>>,
+    order: Spans<Block<'a>>,
+    ghost ordered: { InOrder order (map block_span blocks.items) },
+}
+
+// Returns whether a part of the file lies in the segment, and begins at an address.
 fn lies_within(head: &SegmentHead, part: &FilePart) -> bool
     ensures { result ≡ spec.lies_within head.now part.now }
 {
     head.place <= part.place
         && u128::from(part.place) + part.bytes.len() as u128
             <= u128::from(head.place) + u128::from(head.size)
+        && u128::from(head.vaddr) + u128::from(part.place.saturating_sub(head.place)) < 1 << 64
 }
 
-// Returns the address of a part that lies in the segment.
-fn start_in(head: &SegmentHead, part: &FilePart) -> u128
-    ensures { result ≡ head.now.vaddr + (part.now.place - head.now.place) }
+// Returns a part of the file as what was read of the segment, if it lies there.
+fn block_in<'a>(head: &SegmentHead, part: &'a FilePart) -> Option<Block<'a>>
+    ensures { option_map block_region result ≡ (if spec.lies_within head.now part.now then Some (part_region head.now part.now) else None) }
 {
-    u128::from(head.vaddr) + u128::from(part.place.saturating_sub(head.place))
-}
-
-// Returns how many bytes of such a part are before an address.
-fn skip_to(head: &SegmentHead, part: &FilePart, address: u64) -> u64
-    ensures { result ≡ address - (head.now.vaddr + (part.now.place - head.now.place)) }
-{
-    address
-        .saturating_sub(head.vaddr)
-        .saturating_sub(part.place.saturating_sub(head.place))
-}
-
-// Returns whether a part lies in the segment and has the eight bytes from an address on.
-fn part_holds(head: &SegmentHead, part: &FilePart, address: u64) -> bool
-    ensures { result ≡ spec.part_holds address head.now part.now }
-{
-    let start = start_in(head, part);
-    lies_within(head, part)
-        && start <= u128::from(address)
-        && u128::from(address) + 8 <= start + part.bytes.len() as u128
-}
-
-// Finds the first such part.
-fn part_at<'a>(head: &SegmentHead, parts: &'a [FilePart], address: u64) -> Option<&'a FilePart>
-    ensures { option_map (λ p. p.now) result ≡ find (spec.part_holds address head.now) parts.now }
-{
-    parts.iter().find(|part| part_holds(head, part, address))
-}
-
-// Returns the number in the eight bytes from an address on, if they were read of this segment.
-fn read_segment(head: &SegmentHead, parts: &[FilePart], address: u64) -> Option<u64>
-    ensures { result ≡ option_map (eight_bytes address) (find (holds_eight address) (spec.regions_of parts.now head.now)) }
-{
-    if !head_holds(head, address) {
+    if !lies_within(head, part) {
         return None;
     }
-    let part = part_at(head, parts, address)?;
-    Some(u64_at(&part.bytes, skip_to(head, part, address)))
+    Some(Block {
+        start: head.vaddr + (part.place - head.place),
+        bytes: &part.bytes,
+    })
 }
 
-// Returns the number in the eight bytes from an address on, if they were read.
-fn read_segments(heads: &[SegmentHead], parts: &[FilePart], address: u64) -> Option<u64>
-    ensures { result ≡ option_map (eight_bytes address) (find (holds_eight address) (spec.regions_read heads.now parts.now)) }
+// Appends what was read of a segment.
+fn push_segment<'a>(
+    blocks: &mut Vec<Block<'a>>,
+    head: &SegmentHead,
+    parts: &'a [FilePart],
+) -> Result<(), AllocError>
+    ensures { OnOk result (map block_region blocks.new.items ≡ map block_region blocks.old.items ++ spec.regions_of parts.now head.now) }
 {
-    for head in heads {
-        if let Some(number) = read_segment(head, parts, address) {
-            return Some(number);
+    if !is_memory(head) {
+        return Ok(());
+    }
+    for part in parts {
+        if let Some(block) = block_in(head, part) {
+            blocks.push(block)?;
         }
     }
-    None
+    Ok(())
 }
 
-// Returns whether one of the segments is memory that has the eight bytes from an address on.
-fn any_holds(heads: &[SegmentHead], address: u64) -> bool
-    ensures { result ≡ list_any (heads_spec.head_holds address) heads.now }
+// Returns what was read of the memory.
+fn blocks_of<'a>(
+    alloc: Global,
+    heads: &[SegmentHead],
+    parts: &'a [FilePart],
+) -> Result<Vec<Block<'a>>, AllocError>
+    ensures { IfOk result (λ blocks. map block_region blocks.items ≡ spec.regions_read heads.now parts.now) }
 {
-    heads.iter().any(|head| head_holds(head, address))
+    let mut blocks = Vec::new(alloc);
+    for head in heads {
+        push_segment(&mut blocks, head, parts)?;
+    }
+    Ok(blocks)
+}
+
+// Returns blocks as spans of the addresses from which on they hold eight bytes.
+fn spans_of<'a>(alloc: Global, blocks: &[Block<'a>]) -> Result<Vec<Span<Block<'a>>>, AllocError>
+    ensures { IfOk result (λ spans. spans.items ≡ map block_span blocks.now) }
+{
+    let mut spans = Vec::with_capacity(alloc, blocks.len())?;
+    for block in blocks {
+        spans.push(Span {
+            start: block.start,
+            size: (block.bytes.len() as u64).saturating_sub(7),
+            leads_to: *block,
+        })?;
+    }
+    Ok(spans)
 }
 
 impl<'a> PartMemory<'a> {
-    ghost use Rattle.std.specs.Prelude.{ℕ, List, true};
-    ghost use Rattle.core_parts.specs.Heads.{heads_lie, memory_in};
-    ghost use Rattle.core_parts.specs.Read.{part_regions};
+    ghost use Rattle.core_parts.specs.PartMemory.{part_regions};
 
-    /// Returns whether the whole memory has the eight bytes from an address on, read or not.
-    pub fn holds(&self, address: u64) -> bool
-        ensures { (file : List ℕ) → heads_lie (length file) self.now.heads.now ≡ true
-            → result ≡ is_some (read_eight (memory_in file self.now.heads.now) address) }
+    /// Puts the memory in order, as far as these parts of a file with these segments have it.
+    ///
+    /// `AllocError` if out of memory.
+    pub fn new(
+        alloc: Global,
+        heads: &[SegmentHead],
+        parts: &'a [FilePart],
+    ) -> Result<PartMemory<'a>, AllocError>
+        ensures { IfOk result (λ memory. part_regions memory ≡ spec.regions_read heads.now parts.now) }
     {
-        address <= u64::MAX - 7 && any_holds(self.heads, address)
+        let blocks = blocks_of(alloc, heads, parts)?;
+        let order = Spans::new(alloc, &spans_of(alloc, &blocks)?)?;
+        Ok(PartMemory { blocks, order })
+    }
+
+    // Finds the first block that has the eight bytes from an address on.
+    fn block_at(&self, address: u64) -> Option<Block<'a>>
+        ensures { option_map block_region result ≡ find (holds_eight address) (part_regions self.now) }
+    {
+        self.order.first_at(address)
     }
 
     // Returns the number in the eight bytes from an address on, if they were read.
@@ -114,12 +139,13 @@ impl<'a> PartMemory<'a> {
         if address > u64::MAX - 7 {
             return None;
         }
-        read_segments(self.heads, self.parts, address)
+        let block = self.block_at(address)?;
+        Some(u64_at(block.bytes, address - block.start))
     }
 }
 
 impl<'a> Memory for PartMemory<'a> {
-    ghost use Rattle.core_parts.specs.Read.{part_regions};
+    ghost use Rattle.core_parts.specs.PartMemory.{part_regions};
 
     ghost regions = { part_regions };
 

@@ -1,6 +1,8 @@
 //! The segments of a core file by their program headers (ELF64 gABI, "Program Header").
 
-ghost use Rattle.std.specs.Prelude.{◌≡◌};
+ghost use Rattle.std.specs.Prelude.{◌≡◌, ℕ, List, true, length, is_some};
+ghost use Rattle.std.specs.List.{list_any};
+ghost use Rattle.sf_model.specs.Memory.{read_eight};
 ghost use Rattle.core_parts.specs.Heads as spec;
 
 /// The type of a segment that is loaded.
@@ -83,4 +85,19 @@ pub fn heads_lie(heads: &[SegmentHead], len: u64) -> bool
     ensures { result ≡ spec.heads_lie len heads.now }
 {
     heads.iter().all(|head| head_lies(head, len))
+}
+
+// Returns whether one of the segments is memory that has the eight bytes from an address on.
+fn any_holds(heads: &[SegmentHead], address: u64) -> bool
+    ensures { result ≡ list_any (spec.head_holds address) heads.now }
+{
+    heads.iter().any(|head| head_holds(head, address))
+}
+
+/// Returns whether the memory of these segments has the eight bytes from an address on, read or not.
+pub fn heads_hold(heads: &[SegmentHead], address: u64) -> bool
+    ensures { (file : List ℕ) → spec.heads_lie (length file) heads.now ≡ true
+        → result ≡ is_some (read_eight (spec.memory_in file heads.now) address) }
+{
+    address <= u64::MAX - 7 && any_holds(heads, address)
 }

@@ -3,7 +3,7 @@
 use crate::files::{File, MASKED, TWO_THREADS, bytes_of};
 use base_tests::tables::expect;
 use core_notes::Core;
-use core_parts::{CoreRead, load_core, walk_reading};
+use core_parts::{CoreRead, Walked, Wanted, load_core, walk_parts};
 use core_walk::walk;
 use sf_decode::View;
 use sf_fakes::MemFiles;
@@ -53,21 +53,28 @@ fn threads_are_walked(rt: HostRuntime) -> Result<(), Fail> {
     Ok(())
 }
 
-// Loads a core file by its parts, and returns the frames of its first thread and its stop.
+// Loads a core file by parts, and again with the addresses that a walk of its first thread needs, until they are enough.
+// Returns the frames of the walk and its stop.
 fn text_by_parts(alloc: Global, section: &[u8], bytes: Vec<u8>) -> Result<String, Fail> {
     let mut files = MemFiles::new(alloc, 4096, Vec::new(alloc));
     if files.put("core", bytes).is_err() {
         return Err("memory".into());
     }
     let view = View::parse(section, 0x3000).ok().ok_or("a section")?;
-    match load_core(alloc, &mut files, "core", 1 << 20) {
-        Ok(CoreRead::Parts(mut core)) => {
-            let thread = *core.threads().first().ok_or("a thread")?;
-            let walked = walk_reading(alloc, &mut files, &view, &thread, &mut core, 64, 4);
-            text_of(alloc, &walked.ok().ok_or("reads")?.ok_or("a walk")?)
+    let mut addresses = Vec::new(alloc);
+    for round in 0..4 {
+        let wanted = Wanted::Memory(&addresses);
+        let Ok(CoreRead::Parts(core)) = load_core(alloc, &mut files, "core", 1 << 20, wanted) else {
+            return Err("parts".into());
+        };
+        let memory = core.memory(alloc)?;
+        let thread = core.threads().first().ok_or("a thread")?;
+        match walk_parts(alloc, &view, thread, &core, &memory, 64)? {
+            Walked::Whole(walk) => return text_of(alloc, &walk),
+            Walked::Missed(address) => addresses.push(address)?,
         }
-        _ => Err("parts".into()),
     }
+    Err("more".into())
 }
 
 #[test]

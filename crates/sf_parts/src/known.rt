@@ -1,6 +1,7 @@
 //! All bytes of a file of which parts were read, as clauses see them.
 
-ghost use Rattle.std.specs.Prelude.{◌≡◌};
+ghost use Rattle.std.specs.Prelude.{◌≡◌, length, IfSome};
+ghost use Rattle.sf_bytes.specs.Parts.{AreParts};
 ghost use Rattle.sf_parts.specs.Image.{image, known_or_read};
 
 use crate::file_parts::FileParts;
@@ -21,9 +22,14 @@ impl<'a, F: Files> Names<Opened<'a, F>> for Whole {
     ghost numbers = { λ opened. known_or_read ((F.seen opened.files.now).contents) (F.whole opened.files.now) (image opened.parts.now.len opened.parts.now.parts.items) };
 }
 
-/// Returns what the open file holds, if that is known, and else what the parts say, for clauses.
+/// Returns all bytes of the open file, of which these parts were read, for clauses: what it holds, if that is known, and
+/// else what the parts say.
 pub fn whole_of<F: Files>(files: &F, parts: &FileParts) -> Tag
-    ensures { result.numbers ≡ known_or_read ((F.seen files.now).contents) (F.whole files.now) (image parts.now.len parts.now.parts.items) }
+    requires len { IfSome ((F.seen files.now).contents) (λ _. parts.now.len ≡ length (F.whole files.now)) }
+    requires parts { IfSome ((F.seen files.now).contents) (λ _. AreParts (F.whole files.now) parts.now.parts.items) }
+    ensures known { IfSome ((F.seen files.now).contents) (λ _. result.numbers ≡ F.whole files.now) }
+    ensures len { length result.numbers ≡ parts.now.len }
+    ensures parts { AreParts result.numbers parts.now.parts.items }
 {
     Tag::of::<Opened<'_, F>, Whole>(&Opened { files, parts })
 }

@@ -22,4 +22,5 @@ mod plan;
 
 pub use file_parts::FileParts;
 pub use file_read::FileRead;
+pub use known::whole_of;
 pub use loading::load_parts;

@@ -1,15 +1,15 @@
-use Rattle.std.proofs.Common.{◌≡◌, ℕ, List, IsTrue}
+use Rattle.std.proofs.Common.{◌≡◌, IsTrue}
 use Rattle.std.specs.Option.{IfSome}
 use Rattle.core_parts.specs.Whole.{IsWholeOf}
-use Rattle.core_parts.proofs.walking.walk_reading.Given as goal
+use Rattle.core_parts.proofs.core_file.CoreParts.read_blocks.Given as goal
 
 -- the same file is open, and the parts that were read are of it
-abbrev pub invariant-loop-round : goal.invariant-loop-round
-invariant-loop-round g l =
+abbrev pub invariant-loop-address : goal.invariant-loop-address
+invariant-loop-address g l =
     let files = g.F.Files in
     record {
-      whole : IfSome ((files.seen l.fn.files).contents) (λ _. IsWholeOf l.core.file (files.whole l.fn.files));
-      kept : (whole : List ℕ) → IsWholeOf l.core.file whole → IsWholeOf l.fn.core.file whole;
+      whole : IfSome ((files.seen l.fn.files).contents) (λ _. IsWholeOf l.self.file (files.whole l.fn.files));
+      len : l.self.file.len ≡ l.fn.self.file.len;
       same_file : files.whole l.files ≡ files.whole l.fn.files;
       opened : IsTrue (files.opened l.files);
       opened_name : files.opened_name l.files ≡ files.opened_name l.fn.files;

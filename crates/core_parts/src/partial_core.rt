@@ -1,0 +1,89 @@
+//! A core file of which parts were read, as one list of bytes.
+
+ghost use Rattle.std.specs.Prelude.{◌≡◌, length};
+ghost use Rattle.sf_bytes.specs.Parts.{AreParts};
+ghost use Rattle.std.proofs.Props.{props};
+
+use crate::core_file::CoreParts;
+use crate::memory::PartMemory;
+use boxcar::tag::Tag;
+use core_notes::Thread;
+use sf_base::Files;
+use sf_model::Arch;
+use sf_parts::whole_of;
+use std::alloc::{AllocError, Global};
+
+/// A core file of which parts were read, as one list of bytes: what the file holds, if that is known, or else some bytes of
+/// which these are parts.
+#[derive(Drop)]
+pub struct PartialCore {
+    pub(crate) core: CoreParts,
+    whole: Tag,
+    ghost sized: { length whole.numbers ≡ core.file.len },
+    ghost slices: { AreParts whole.numbers core.file.parts.items } by { Prim.hlevel props },
+}
+
+impl PartialCore {
+    ghost use Rattle.core_notes.specs.Checks.{core_check, file_threads};
+    ghost use Rattle.core_notes.specs.Memory.{file_regions};
+    ghost use Rattle.core_walk.specs.PartWalk.{IsPartOf};
+    ghost use Rattle.core_parts.specs.PartMemory.{part_regions};
+    ghost use Rattle.core_parts.specs.Partial.{partial_file};
+    ghost use Rattle.core_parts.specs.Whole.{IsWholeOf};
+    ghost use Rattle.elf_read.specs.Header as header;
+    ghost use Rattle.sf_model.specs.Memory.{read_eight};
+    ghost use Rattle.std.specs.Prelude.{◌≤◌, Ok, is_some, IfOk, IfSome};
+
+    /// Creates the core file of which these parts were read of the open file.
+    pub fn new<F: Files>(files: &F, core: CoreParts) -> PartialCore
+        requires { IfSome ((F.seen files.now).contents) (λ _. IsWholeOf core.file (F.whole files.now)) }
+        ensures known { IfSome ((F.seen files.now).contents) (λ _. partial_file result ≡ F.whole files.now) }
+        ensures len { length (partial_file result) ≡ core.file.len }
+    {
+        let whole = whole_of(files, &core.file);
+        PartialCore { core, whole }
+    }
+
+    /// Says that the file passes every check of a core file.
+    pub fn is_checked(&self)
+        ensures { core_check (partial_file self.now) ≡ Ok tt }
+    {}
+
+    /// Returns how many bytes the file has.
+    pub fn len(&self) -> u64
+        ensures { result ≡ length (partial_file self.now) }
+    {
+        self.core.file.len
+    }
+
+    /// Returns the machine that the file is for.
+    pub fn arch(&self) -> Arch
+        ensures { result ≡ header.arch_of (partial_file self.now) }
+    {
+        self.core.arch()
+    }
+
+    /// Returns the threads, in the order of their notes.
+    pub fn threads(&self) -> &[Thread]
+        ensures are { result.now ≡ file_threads (partial_file self.now) }
+        ensures few { length result.now ≤ 4096 }
+    {
+        self.core.threads()
+    }
+
+    /// Returns the memory, as far as it was read.
+    ///
+    /// `AllocError` if out of memory.
+    pub fn memory(&self, alloc: Global) -> Result<PartMemory<'_>, AllocError>
+        ensures { IfOk result (λ memory. IsPartOf (part_regions memory) (file_regions (partial_file self.now))) }
+    {
+        self.core.memory(alloc)
+    }
+
+    /// Returns whether the whole memory has the eight bytes from an address on, read or not.
+    pub fn holds(&self, address: u64) -> bool
+        ensures { result ≡ is_some (read_eight (file_regions (partial_file self.now)) address) }
+    {
+        self.core.holds(address)
+    }
+}
