@@ -1,4 +1,4 @@
--- The signal frames of functions that SFrame can't express (LSB Core, the augmentation letter `S`; DWARF 5, sections 6.4.1 and 6.4.2).
+-- The signal frames of functions that SFrame can't express (GNU's augmentation letter `S`; DWARF 5, sections 6.4.1 and 6.4.2).
 use Rattle.std.specs.Prelude.{◌≡◌, ◌⊎◌, List, [], ◌∷◌}
 use Rattle.sf_asm.specs.Functions.{Function}
 use Rattle.sf_asm.specs.Kept.{facts_of}

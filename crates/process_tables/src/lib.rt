@@ -9,7 +9,7 @@
 //! the process had at each address, and over signal frames.
 //!
 //! The caller owes files of fewer than 2^32 bytes. A file is read twice, for its place and for its functions, and its
-//! functions, section and signal frames are allocated. Walks take what `process_walk` says.
+//! functions, section and signal frames are allocated. The time of walks is that of `process_walk`.
 #![tactic(auto)]
 
 mod name;

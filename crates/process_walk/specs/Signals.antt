@@ -1,4 +1,4 @@
--- The signal frames of a process's modules (DWARF 5, section 6.4.1; LSB Core, the augmentation letter `S`; Linux core files, NT_FILE).
+-- The signal frames of a process's modules (DWARF 5, section 6.4.1; GNU's augmentation letter `S`; Linux core files, NT_FILE).
 use Rattle.std.specs.Prelude.{ℕ, List, [], get_or, Option}
 use Rattle.std.specs.Option.{option_and_then}
 use Rattle.sf_lookup.specs.declared.span.Span.{Span}

@@ -1,5 +1,5 @@
 -- One step of a walk, from a frame to its caller, by what a row recovers (GNU SFrame specification, Version 2, frame row entries), or over
--- a signal frame (DWARF 5, sections 6.4.1 and 6.4.2.3; LSB Core, the augmentation letter `S`).
+-- a signal frame (DWARF 5, sections 6.4.1 and 6.4.2.3; GNU's augmentation letter `S`).
 use Rattle.std.specs.Prelude.{ℕ, Bool, false, List, Option, Some, None, Result, Ok, Err, is_ok}
 use Rattle.sf_bytes.specs.Steps.{◌>>=◌}
 use Rattle.sf_model.specs.declared.recovery.Regs.{Regs}

@@ -105,8 +105,8 @@ fn mixed_item(arch: Arch, tables: &[MappedTable<'_, '_>]) -> Option<u32>
     None
 }
 
-/// Returns the walks of a core file's threads through the files of tables, if there is one, and if they are for its machine
-/// and within the limits.
+/// Returns the walks of a core file's threads through the files of tables, if there is a table, and if all files are for its
+/// machine and within the limits.
 fn walked<'a, 'm>(
     alloc: Global,
     core: &Core<'_>,

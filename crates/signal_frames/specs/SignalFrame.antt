@@ -1,4 +1,4 @@
--- A function whose frame a kernel made when it delivered a signal, and whose caller is the interrupted function (LSB Core, the augmentation
+-- A function whose frame a kernel made when it delivered a signal, and whose caller is the interrupted function (GNU's augmentation
 -- letter `S`; DWARF 5, sections 6.4.1 and 6.4.2): on AMD64, the canonical frame address is what is saved at the stack pointer plus a
 -- constant, and the return address and the frame pointer are saved at the stack pointer plus constants of their own. The caller's stack
 -- pointer is the canonical frame address: it has no rule, or is saved where that is.

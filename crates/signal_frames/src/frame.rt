@@ -1,4 +1,4 @@
-//! Signal frames (LSB Core, the augmentation letter `S`; DWARF 5, section 6.4.1).
+//! Signal frames (GNU's augmentation letter `S`; DWARF 5, section 6.4.1).
 
 ghost use Rattle.std.specs.Prelude.{◌≡◌, ℤ, Some, IfSome, IsTrue};
 ghost use Rattle.std.specs.Option.{option_map};

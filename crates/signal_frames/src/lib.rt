@@ -1,4 +1,4 @@
-//! Signal frames whose callers can be found (DWARF 5, sections 6.4.2 and 2.5.1; LSB Core, the augmentation letter `S`).
+//! Signal frames whose callers can be found (DWARF 5, sections 6.4.2 and 2.5.1; GNU's augmentation letter `S`).
 //!
 //! A kernel that delivers a signal saves the interrupted registers on the stack, and has the handler return to a
 //! trampoline. SFrame has no form for the trampoline's frame. Its call frame instructions say where the registers are:
