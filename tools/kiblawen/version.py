@@ -1,4 +1,4 @@
-"""Checks that files which repeat the version agree with VERSION, and that the pages name the toolchain on this machine.
+"""Checks that files which repeat the version agree with VERSION, and that the pages name the logic of the toolchain on this machine.
 
     ./x version     prints both; the status is 1 if a file names another one
 """
@@ -13,6 +13,8 @@ def main(words):
     common.parser(__name__, __doc__).parse_args(words)
     version = common.version()
     kit = subprocess.run(["rt", "version"], stdout=subprocess.PIPE, check=False).stdout.decode().strip()
+    # Kits of several names have one logic.
+    logic = "".join(re.findall(r"logic \w+", kit)[:1])
     numbers = zip(("MAJOR", "MINOR", "PATCH"), version.split("."))
     named = (
         ("CHANGELOG.md", f"## {version}"),
@@ -20,8 +22,8 @@ def main(words):
         ("man/kiblawen-add.1", f"Kiblawen {version}"),
         ("include/kiblawen.h", f'#define KIBLAWEN_VERSION_STRING "{version}"'),
         *(("include/kiblawen.h", f"#define KIBLAWEN_VERSION_{part} {number}") for part, number in numbers),
-        ("README.md", kit),
-        ("docs/proof.md", kit),
+        ("README.md", logic),
+        ("docs/proof.md", logic),
     )
     failed = 0
     for name, text in named:
