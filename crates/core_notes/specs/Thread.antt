@@ -2,6 +2,9 @@
 -- to the next one are of that thread.
 use Rattle.std.specs.Prelude.{ℕ, ◌==◌, Bool, true, false, ◌&&◌, List, [], ◌∷◌, Option, Some, None, if◌then◌else◌}
 use Rattle.std.specs.Cmp.Lexicographic.{pointwise}
+use Rattle.std.specs.List.{find}
+use Rattle.std.specs.Option.{option_map}
+use Rattle.sf_bytes.specs.Cursor.{Cursor}
 use Rattle.sf_model.specs.declared.machine.Arch.{Arch}
 use Rattle.sf_model.specs.declared.machine.Arch.TheVariants.{Amd64, Aarch64}
 use Rattle.elf_read.specs.Number.{field_at}
@@ -27,6 +30,10 @@ is_status n = has_name_and_type core_name 1 n
 -- the note lists the mapped files: NT_FILE 0x46494c45
 abbrev pub is_file_note : NoteView → Bool
 is_file_note n = has_name_and_type core_name 0x46494c45 n
+
+-- the descriptor of the first note on mapped files, with its place
+abbrev pub file_note_in : List NoteView → Option Cursor
+file_note_in notes = option_map (λ (n : NoteView). n.descriptor) (find is_file_note notes)
 
 -- the machine is AArch64
 abbrev pub is_aarch64 : Arch → Bool

@@ -21,6 +21,7 @@
 
 mod core_memory;
 mod fault;
+mod file_note;
 mod iter;
 mod laws;
 mod layout;
@@ -39,6 +40,7 @@ mod view;
 
 pub use core_memory::CoreMemory;
 pub use fault::CoreFault;
+pub use file_note::file_note_of_segment;
 pub use iter::ThreadIter;
 pub use laws::core_is_its_notes;
 pub use memory_map::MemoryMap;

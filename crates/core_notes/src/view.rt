@@ -8,12 +8,13 @@ ghost use Rattle.core_notes.specs.Order.{IsOrder};
 ghost use Rattle.core_notes.specs.Segment.{segments};
 
 use crate::fault::CoreFault;
+use crate::file_note::first_file_note;
 use crate::iter::ThreadIter;
 use crate::memory::{Order, read_eight, rise};
 use crate::memory_bytes::bytes_at;
 use crate::notes::Notes;
 use crate::parsing::check_core;
-use crate::status::{Thread, is_file_note};
+use crate::status::Thread;
 use elf_read::Elf;
 use sf_bytes::Part;
 use sf_model::{Arch, Memory};
@@ -33,7 +34,6 @@ pub struct Core<'a> {
 
 impl<'a> Core<'a> {
     ghost use Rattle.std.specs.Prelude.{◌≤◌, IfOk, IsOkAnd, List, slice_index_or};
-    ghost use Rattle.std.specs.List.{find};
     ghost use Rattle.std.specs.Option.{option_map};
     ghost use Rattle.sf_bytes.specs.Cursor.{cursor};
     ghost use Rattle.elf_read.specs.Checking.{verdict};
@@ -116,16 +116,9 @@ impl<'a> Core<'a> {
 
     /// Returns the descriptor of the first note that lists the mapped files, if there is one.
     pub fn file_note(&self) -> Option<Part<'a>>
-        ensures { option_map cursor result ≡ option_map (λ (n : NoteView). n.descriptor) (find spec.is_file_note (notes_of self.now)) }
+        ensures { option_map cursor result ≡ spec.file_note_in (notes_of self.now) }
     {
-        for item in Notes::new(&self.elf) {
-            if let Ok(note) = item {
-                if is_file_note(&note) {
-                    return Some(note.descriptor);
-                }
-            }
-        }
-        None
+        first_file_note(Notes::new(&self.elf))
     }
 
     // Returns what is known of the order of its segments.

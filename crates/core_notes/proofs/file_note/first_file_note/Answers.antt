@@ -5,7 +5,7 @@ use Rattle.core_notes.specs.Listing.{notes_remaining}
 use Rattle.core_notes.specs.Note.{NoteView, note_view}
 use Rattle.core_notes.specs.Thread.{is_file_note}
 use Rattle.core_notes.proofs.Threaded.{at_end, at_no_note, found_note, to_note}
-use Rattle.core_notes.proofs.view.Core.file_note.Goals as goal
+use Rattle.core_notes.proofs.file_note.first_file_note.Goals as goal
 
 pub returns-then-is_file_note : goal.returns-then-is_file_note
 returns-then-is_file_note c =
