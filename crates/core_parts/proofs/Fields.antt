@@ -1,16 +1,19 @@
 -- Fields in the first bytes of a file, and in its program headers, are those of the file.
 use Rattle.std.specs.Prelude.{nat_lt}
 use Rattle.std.specs.List.{list_all, range_with_len}
-use Rattle.std.proofs.Common.{◌≡◌, ℕ, zero, suc, ◌+◌, ◌-◌, ◌*◌, ◌<◌, ◌≤◌, min, Bool, true, cond, List, ◌∷◌, length, take, drop, map, refl, sym, ap, subst, ◌∙◌, arith, inl, inr}
+use Rattle.std.proofs.Common.{◌≡◌, ℕ, zero, suc, ◌+◌, ◌-◌, ◌*◌, ◌<◌, ◌≤◌, ◌==◌, min, Bool, true, cond, List, ◌∷◌, length, take, drop, map, refl, sym, ap, subst, ◌∙◌, arith, inl, inr}
 use Rattle.std.proofs.lemmas.Bool.{cases_lt, lt-ltb, le-ltb}
 use Rattle.std.proofs.lemmas.List.{length-take, drop-take}
 use Rattle.byteorder.specs.Endian.{little_number}
 use Rattle.byteorder.specs.Numbers.{little_from-take}
-use Rattle.elf_read.specs.Number.{front_number, field_at, window}
+use Rattle.elf_read.specs.Number.{front_number, field_at, has_flag, window}
 use Rattle.elf_read.specs.Header.{FileHeader, header_fields, p_type, p_vaddr, p_offset, p_filesz}
+use Rattle.elf_read.specs.SegmentFields.{p_flags, p_memsz}
+use Rattle.sf_lookup.specs.declared.span.Span.{Span}
+use Rattle.core_notes.specs.MemoryBytes.{load_span}
 use Rattle.core_notes.specs.Segment.{SegmentView, segment_of}
 use Rattle.core_parts.specs.declared.segment.SegmentHead.{SegmentHead}
-use Rattle.core_parts.specs.Heads.{segment_in}
+use Rattle.core_parts.specs.Heads.{head_span, segment_in}
 use Rattle.core_parts.specs.Table.{head_at}
 use Rattle.core_parts.proofs.PartReads.{both}
 
@@ -102,16 +105,33 @@ pub size_kept : (file table : List ℕ) (count i : ℕ) → IsTableOf file table
 unfolding p_filesz
 size_kept file table count i is below = field_kept 8 32 i count file table is below (omega arith)
 
-map_same : (f : SegmentHead → SegmentView) (g : ℕ → SegmentHead) (k : ℕ → SegmentView) (a n : ℕ) → ((i : ℕ) → a ≤ i → i < a + n → f (g i) ≡ k i)
+map_same : {X : Type 0} (f : SegmentHead → X) (g : ℕ → SegmentHead) (k : ℕ → X) (a n : ℕ) → ((i : ℕ) → a ≤ i → i < a + n → f (g i) ≡ k i)
     → map f (map g (range_with_len a n)) ≡ map k (range_with_len a n)
 map_same f g k a zero h = refl
-map_same f g k a (suc n) h =
-    ap (λ (s : SegmentView). s ∷ map f (map g (range_with_len (a + 1) n))) (h a (omega arith) (omega arith))
-    ∙ ap (λ (ss : List SegmentView). k a ∷ ss) (map_same f g k (a + 1) n (λ i low high. h i (omega (arith, low)) (omega (arith, high))))
+map_same {X} f g k a (suc n) h =
+    ap (λ (s : X). s ∷ map f (map g (range_with_len (a + 1) n))) (h a (omega arith) (omega arith))
+    ∙ ap (λ (ss : List X). k a ∷ ss) (map_same f g k (a + 1) n (λ i low high. h i (omega (arith, low)) (omega (arith, high))))
 
 pub segments_kept : (file table : List ℕ) (count : ℕ) → IsTableOf file table count
     → map (segment_in file) (map (head_at table) (range_with_len 0 count)) ≡ map (segment_of file) (range_with_len 0 count)
 segments_kept file table count is = map_same (segment_in file) (head_at table) (segment_of file) 0 count (λ i low high. segment_kept file table count i is (omega (arith, high)))
+
+-- where the segments are in memory
+abbrev span_by : (start memory_size kind flags : ℕ) → Span Bool
+span_by start memory_size kind flags = record { start = start; size = cond (kind == 1) memory_size 0; leads_to = has_flag flags 1 }
+
+same_span : (a b c d a2 b2 c2 d2 : ℕ) → a ≡ a2 → b ≡ b2 → c ≡ c2 → d ≡ d2 → span_by a b c d ≡ span_by a2 b2 c2 d2
+same_span a b c d a2 b2 c2 d2 p q r s = rw (p, q, r, s) refl
+
+load_kept : (file table : List ℕ) (count i : ℕ) → IsTableOf file table count → i < count → head_span (head_at table i) ≡ load_span file i
+unfolding p_type p_vaddr p_memsz p_flags
+load_kept file table count i is below =
+    same_span _ _ _ _ _ _ _ _ (field_kept 8 16 i count file table is below (omega arith)) (field_kept 8 40 i count file table is below (omega arith))
+    (field_kept 4 0 i count file table is below (omega arith)) (field_kept 4 4 i count file table is below (omega arith))
+
+pub loads_kept : (file table : List ℕ) (count : ℕ) → IsTableOf file table count
+    → map head_span (map (head_at table) (range_with_len 0 count)) ≡ map (load_span file) (range_with_len 0 count)
+loads_kept file table count is = map_same head_span (head_at table) (load_span file) 0 count (λ i low high. load_kept file table count i is (omega (arith, high)))
 
 -- what holds of all headers holds of each
 pub all_at : (p : SegmentHead → Bool) (f : ℕ → SegmentHead) (a n i : ℕ) → list_all p (map f (range_with_len a n)) ≡ true → a ≤ i → i < a + n → p (f i) ≡ true

@@ -1,10 +1,10 @@
 -- What a core file's headers and its one segment of notes say holds of the whole file.
 use Rattle.std.specs.Prelude.{IfOk, IfSome, nat_le}
 use Rattle.std.specs.List.{flat_map, range_with_len}
+use Rattle.std.specs.Option.{option_map}
 use Rattle.std.proofs.Common.{◌≡◌, ℕ, zero, suc, ◌+◌, ◌*◌, ◌<◌, ◌≤◌, ◌==◌, ◌&&◌, ◌||◌, not, min, Bool, true, false, cond, List, length, map, Option, Some, None, Result, Ok, Err, refl, sym, ap, subst, ◌∙◌, arith}
 use Rattle.std.proofs.lemmas.Bool.{le-leb, leb-true}
 use Rattle.std.proofs.lemmas.List.{length-take}
-use Rattle.sf_bytes.specs.Cursor.{Cursor}
 use Rattle.sf_bytes.specs.declared.file_part.FilePart.{FilePart}
 use Rattle.sf_bytes.specs.Parts.{IsPart}
 use Rattle.sf_model.specs.declared.machine.Arch.{Arch as machine}
@@ -24,14 +24,15 @@ use Rattle.core_notes.specs.declared.fault.CoreFault.TheVariants.{NotCore}
 use Rattle.core_notes.specs.Checks.{Check, NotesPass, core_check, core_part, elf_part, file_threads, is_core_kind}
 use Rattle.core_notes.specs.Listing.{NoteItem, notes_from, notes_in, segment_items, whole_notes}
 use Rattle.core_notes.specs.Segment.{segment_of, segments}
-use Rattle.core_notes.specs.Thread.{threads_in}
+use Rattle.core_notes.specs.MemoryBytes.{load_span, load_spans}
+use Rattle.core_notes.specs.Thread.{file_note_in, threads_in}
 use Rattle.core_notes.proofs.Rooms.{room_is_checked}
 use Rattle.core_parts.specs.declared.core_head.CoreHead.{CoreHead}
 use Rattle.core_parts.specs.CoreHeader.{IsCoreHeader}
-use Rattle.core_parts.specs.Heads.{head_lies, heads_lie, segment_in}
+use Rattle.core_parts.specs.Heads.{head_lies, head_span, heads_lie, segment_in}
 use Rattle.core_parts.specs.Table.{head_at}
-use Rattle.core_parts.specs.Whole.{AreRead, IsHeadOf}
-use Rattle.core_parts.proofs.Fields.{IsTableOf, all_at, fields_kept, place_kept, segments_kept, size_kept}
+use Rattle.core_parts.specs.Whole.{AreRead, IsHeadOf, part_cursor}
+use Rattle.core_parts.proofs.Fields.{IsTableOf, all_at, fields_kept, loads_kept, place_kept, segments_kept, size_kept}
 use Rattle.core_parts.proofs.Notes.{notes_of_one, room_for_one}
 
 -- the three parts of a file, and what they say
@@ -205,10 +206,15 @@ segments_kept_by file header table notes head p =
     ∙ ap (λ (n : ℕ). map (segment_in file) (map (head_at table.bytes.items) (range_with_len 0 n))) (sym same)
     ∙ ap (map (segment_in file)) (sym p.read.heads_are.heads_are)
 
-abbrev note_cursor : FilePart → Cursor
-note_cursor notes = record { place = notes.place; left = notes.bytes.items }
+loads_kept_by : (file : List ℕ) (header table notes : FilePart) (head : CoreHead) → Parts file header table notes head → load_spans file ≡ map head_span head.heads.items
+loads_kept_by file header table notes head p =
+    let same = ap (λ (h : FileHeader). h.e_phnum) (same_header file header table notes head p) in
+    ap (λ (n : ℕ). map (load_span file) (range_with_len 0 n)) (count_is file (file_says file header table notes head p))
+    ∙ sym (loads_kept file table.bytes.items (header_fields file).e_phnum p.table_is)
+    ∙ ap (λ (n : ℕ). map head_span (map (head_at table.bytes.items) (range_with_len 0 n))) (sym same)
+    ∙ ap (map head_span) (sym p.read.heads_are.heads_are)
 
-notes_kept : (file : List ℕ) (header table notes : FilePart) (head : CoreHead) → Parts file header table notes head → notes_in file ≡ notes_from (note_cursor notes)
+notes_kept : (file : List ℕ) (header table notes : FilePart) (head : CoreHead) → Parts file header table notes head → notes_in file ≡ notes_from (part_cursor notes)
 notes_kept file header table notes head p =
     let t = p.read.threads_are in
     ap (flat_map segment_items) (segments_kept_by file header table notes head p)
@@ -242,7 +248,7 @@ part_passes file header table notes head p =
     let arch = arch_kept file header table notes head p in
     let items = notes_kept file header table notes head p in
     let pass : NotesPass (arch_of file) (notes_in file) =
-    subst (λ (xs : List NoteItem). NotesPass (arch_of file) xs) (sym items) (subst (λ (a : machine). NotesPass a (notes_from (note_cursor notes))) (sym arch) t.pass) in
+    subst (λ (xs : List NoteItem). NotesPass (arch_of file) xs) (sym items) (subst (λ (a : machine). NotesPass a (notes_from (part_cursor notes))) (sym arch) t.pass) in
     four_parts _ _ _ _
     (ap (λ (b : Bool). unless b NotCore) (kind_is file (file_says file header table notes head p)))
     (ap elf_part (room_is_checked file (room_for_one file head.heads.items t.note (segments_kept_by file header table notes head p) t.only)))
@@ -255,8 +261,11 @@ check_passes file header table notes head p =
 threads_kept : (file : List ℕ) (header table notes : FilePart) (head : CoreHead) → Parts file header table notes head → file_threads file ≡ head.threads.items
 threads_kept file header table notes head p =
     ap (λ (items : List NoteItem). threads_in (arch_of file) (whole_notes items)) (notes_kept file header table notes head p)
-    ∙ ap (λ (a : machine). threads_in a (whole_notes (notes_from (note_cursor notes)))) (arch_kept file header table notes head p)
+    ∙ ap (λ (a : machine). threads_in a (whole_notes (notes_from (part_cursor notes)))) (arch_kept file header table notes head p)
     ∙ sym p.read.threads_are.threads_are
+
+note_kept : (file : List ℕ) (header table notes : FilePart) (head : CoreHead) → Parts file header table notes head → file_note_in (whole_notes (notes_in file)) ≡ option_map part_cursor head.file_note
+note_kept file header table notes head p = ap (λ (items : List NoteItem). file_note_in (whole_notes items)) (notes_kept file header table notes head p) ∙ p.read.note_is
 
 -- ---- all
 pub head_is : (file : List ℕ) (header table notes : FilePart) (len : ℕ) (head : CoreHead) → length file ≡ len → IsPart file header → IsPart file table → IsPart file notes → AreRead header table notes len head → IsHeadOf head file
@@ -277,6 +286,8 @@ head_is file header table notes len head is at_header at_table at_notes read =
       machine = arch_kept file header table notes head p;
       segments_are = segments_kept_by file header table notes head p;
       threads_are = threads_kept file header table notes head p;
+      loads_are = loads_kept_by file header table notes head p;
+      note_is = note_kept file header table notes head p;
     }
 
 -- what holds of what was read

@@ -4,3 +4,6 @@ pub mod Blocks
 pub mod Fields
 pub mod Notes
 pub mod HeadSound
+pub mod InputParts
+pub mod InputWalks
+pub mod HeldSpans

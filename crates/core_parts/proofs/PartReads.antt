@@ -8,6 +8,7 @@ use Rattle.std.proofs.lemmas.List.{length-drop, length-take}
 use Rattle.byteorder.specs.Endian.{little_number}
 use Rattle.sf_bytes.specs.declared.file_part.FilePart.{FilePart}
 use Rattle.sf_model.specs.Memory.{Region, eight_bytes, holds_eight, read_eight}
+use Rattle.core_notes.specs.MemoryBytes.{bytes_at, holds_bytes, region_bytes}
 use Rattle.elf_read.specs.Number.{front_number, window}
 use Rattle.core_notes.specs.Memory.{region_of}
 use Rattle.core_notes.specs.Segment.{is_load}
@@ -34,23 +35,23 @@ unfolding read_eight
 read_found memory address h = ap (λ (b : Bool). cond b (option_map (eight_bytes address) (find (holds_eight address) memory)) None) (le-leb (address + 8) (2 ^ 64) h)
 
 -- ---- reads of one segment
--- a part that lies in a segment, and has the eight bytes from an address on
-pub record HasEight (address : ℕ) (h : SegmentHead) (p : FilePart) : Type 0 where
+-- a part that lies in a segment, and has `len` bytes from an address on
+pub record HasBytes (address len : ℕ) (h : SegmentHead) (p : FilePart) : Type 0 where
   pub from : h.place ≤ p.place
   pub to : p.place + length p.bytes.items ≤ h.place + h.size
   pub low : h.vaddr + (p.place - h.place) ≤ address
-  pub high : address + 8 ≤ h.vaddr + (p.place - h.place) + length p.bytes.items
+  pub high : address + len ≤ h.vaddr + (p.place - h.place) + length p.bytes.items
 
-pub has_eight : (address : ℕ) (h : SegmentHead) (p : FilePart) → lies_within h p ≡ true → holds_eight address (part_region h p) ≡ true → HasEight address h p
-has_eight address h p e f =
+pub has_bytes : (address len : ℕ) (h : SegmentHead) (p : FilePart) → lies_within h p ≡ true → holds_bytes address len (part_region h p) ≡ true → HasBytes address len h p
+has_bytes address len h p e f =
     let from = both (nat_le h.place p.place) (nat_le (p.place + length p.bytes.items) (h.place + h.size) && nat_lt (h.vaddr + (p.place - h.place)) (2 ^ 64)) e in
     let to = both (nat_le (p.place + length p.bytes.items) (h.place + h.size)) (nat_lt (h.vaddr + (p.place - h.place)) (2 ^ 64)) from.1 in
-    let holds = both (nat_le (h.vaddr + (p.place - h.place)) address) (nat_le (address + 8) (h.vaddr + (p.place - h.place) + length p.bytes.items)) f in
+    let holds = both (nat_le (h.vaddr + (p.place - h.place)) address) (nat_le (address + len) (h.vaddr + (p.place - h.place) + length p.bytes.items)) f in
     record {
       from = leb-true h.place p.place from.0;
       to = leb-true (p.place + length p.bytes.items) (h.place + h.size) to.0;
       low = leb-true (h.vaddr + (p.place - h.place)) address holds.0;
-      high = leb-true (address + 8) (h.vaddr + (p.place - h.place) + length p.bytes.items) holds.1;
+      high = leb-true (address + len) (h.vaddr + (p.place - h.place) + length p.bytes.items) holds.1;
     }
 
 pub long_enough : (bytes : List ℕ) → 8 ≤ length bytes → front_number 8 bytes ≡ little_number 8 bytes
@@ -58,9 +59,9 @@ unfolding front_number
 long_enough bytes h = ap (λ (b : Bool). cond b 0 (little_number 8 bytes)) (le-ltb (length bytes) 8 h)
 
 -- ---- what the whole memory has
-some_mapped : (address : ℕ) (o : Option Region) → is_some (option_map (eight_bytes address) o) ≡ is_some o
-some_mapped address (Some r) = refl
-some_mapped address None = refl
+some_mapped : {X Y : Type 0} (f : X → Y) (o : Option X) → is_some (option_map f o) ≡ is_some o
+some_mapped f (Some r) = refl
+some_mapped f None = refl
 
 some_if : (b : Bool) (r : Region) (o : Option Region) → is_some (cond b (Some r) o) ≡ (b || is_some o)
 some_if true r o = refl
@@ -74,32 +75,37 @@ full_length file h e =
     let dropped : length (drop h.place file) ≡ length file - h.place = length-drop h.place file in
     omega (arith, within, taken, dropped)
 
-holds_by_head : (file : List ℕ) (address : ℕ) (h : SegmentHead) → head_lies (length file) h ≡ true
-    → holds_eight address (region_of (segment_in file h)) ≡ (nat_le h.vaddr address && nat_le (address + 8) (h.vaddr + h.size))
-holds_by_head file address h e = ap (λ (n : ℕ). nat_le h.vaddr address && nat_le (address + 8) (h.vaddr + n)) (full_length file h e)
+holds_by_head : (file : List ℕ) (address len : ℕ) (h : SegmentHead) → head_lies (length file) h ≡ true
+    → holds_bytes address len (region_of (segment_in file h)) ≡ (nat_le h.vaddr address && nat_le (address + len) (h.vaddr + h.size))
+holds_by_head file address len h e = ap (λ (n : ℕ). nat_le h.vaddr address && nat_le (address + len) (h.vaddr + n)) (full_length file h e)
 
-held_by_heads : (file : List ℕ) (address : ℕ) (hs : List SegmentHead) → heads_lie (length file) hs ≡ true
-    → list_any (head_holds address) hs ≡ is_some (find (holds_eight address) (memory_in file hs))
-held_by_heads file address [] e = refl
-held_by_heads file address (h ∷ hs) e =
+held_by_heads : (file : List ℕ) (address len : ℕ) (hs : List SegmentHead) → heads_lie (length file) hs ≡ true
+    → list_any (head_holds address len) hs ≡ is_some (find (holds_bytes address len) (memory_in file hs))
+held_by_heads file address len [] e = refl
+held_by_heads file address len (h ∷ hs) e =
     let parts = both (head_lies (length file) h) (heads_lie (length file) hs) e in
-    by_kind (is_memory h) (held_by_heads file address hs parts.1) (holds_by_head file address h parts.0)
+    by_kind (is_memory h) (held_by_heads file address len hs parts.1) (holds_by_head file address len h parts.0)
   where
-    by_kind : (b : Bool) → list_any (head_holds address) hs ≡ is_some (find (holds_eight address) (memory_in file hs))
-        → holds_eight address (region_of (segment_in file h)) ≡ (nat_le h.vaddr address && nat_le (address + 8) (h.vaddr + h.size))
-        → ((b && (nat_le h.vaddr address && nat_le (address + 8) (h.vaddr + h.size))) || list_any (head_holds address) hs)
-        ≡ is_some (find (holds_eight address) (map region_of (cond b (segment_in file h ∷ filter is_load (map (segment_in file) hs)) (filter is_load (map (segment_in file) hs)))))
+    by_kind : (b : Bool) → list_any (head_holds address len) hs ≡ is_some (find (holds_bytes address len) (memory_in file hs))
+        → holds_bytes address len (region_of (segment_in file h)) ≡ (nat_le h.vaddr address && nat_le (address + len) (h.vaddr + h.size))
+        → ((b && (nat_le h.vaddr address && nat_le (address + len) (h.vaddr + h.size))) || list_any (head_holds address len) hs)
+        ≡ is_some (find (holds_bytes address len) (map region_of (cond b (segment_in file h ∷ filter is_load (map (segment_in file) hs)) (filter is_load (map (segment_in file) hs)))))
     by_kind true later same =
-        ap (λ (b : Bool). b || list_any (head_holds address) hs) (sym same)
-        ∙ ap (λ (b : Bool). holds_eight address (region_of (segment_in file h)) || b) later
-        ∙ sym (some_if (holds_eight address (region_of (segment_in file h))) (region_of (segment_in file h)) (find (holds_eight address) (memory_in file hs)))
+        ap (λ (b : Bool). b || list_any (head_holds address len) hs) (sym same)
+        ∙ ap (λ (b : Bool). holds_bytes address len (region_of (segment_in file h)) || b) later
+        ∙ sym (some_if (holds_bytes address len (region_of (segment_in file h))) (region_of (segment_in file h)) (find (holds_bytes address len) (memory_in file hs)))
     by_kind false later same = later
 
 pub held : (file : List ℕ) (address : ℕ) (hs : List SegmentHead) → heads_lie (length file) hs ≡ true → address + 8 ≤ 2 ^ 64
-    → list_any (head_holds address) hs ≡ is_some (read_eight (memory_in file hs) address)
+    → list_any (head_holds address 8) hs ≡ is_some (read_eight (memory_in file hs) address)
 held file address hs e low =
-    held_by_heads file address hs e
-    ∙ sym (some_mapped address (find (holds_eight address) (memory_in file hs))) ∙ ap is_some (sym (read_found (memory_in file hs) address low))
+    held_by_heads file address 8 hs e
+    ∙ sym (some_mapped (eight_bytes address) (find (holds_eight address) (memory_in file hs))) ∙ ap is_some (sym (read_found (memory_in file hs) address low))
+
+pub bytes_held : (file : List ℕ) (address len : ℕ) (hs : List SegmentHead) → heads_lie (length file) hs ≡ true
+    → list_any (head_holds address len) hs ≡ is_some (bytes_at (memory_in file hs) address len)
+unfolding bytes_at
+bytes_held file address len hs e = held_by_heads file address len hs e ∙ sym (some_mapped (region_bytes address len) (find (holds_bytes address len) (memory_in file hs)))
 
 pub none_too_high : (memory : List Region) (address : ℕ) → 2 ^ 64 < address + 8 → false ≡ is_some (read_eight memory address)
 none_too_high memory address h = ap is_some (sym (too_high memory address h))

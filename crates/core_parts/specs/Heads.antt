@@ -1,6 +1,7 @@
 -- The segments of a core file by their program headers (ELF64 gABI, "Program Header").
 use Rattle.std.specs.Prelude.{ℕ, ◌+◌, ◌==◌, Bool, true, ◌&&◌, ◌||◌, not, nat_le, List, [], ◌∷◌, map, if◌then◌else◌}
 use Rattle.std.specs.List.{list_all}
+use Rattle.sf_lookup.specs.declared.span.Span.{Span}
 use Rattle.sf_model.specs.Memory.{Region}
 use Rattle.elf_read.specs.Number.{window}
 use Rattle.core_notes.specs.Memory.{regions_in}
@@ -23,9 +24,13 @@ is_memory h = h.kind == 1
 abbrev pub is_note : SegmentHead → Bool
 is_note h = h.kind == 4
 
--- the segment is memory that has the eight bytes from an address on
-abbrev pub head_holds : (address : ℕ) → SegmentHead → Bool
-head_holds address h = is_memory h && (nat_le h.vaddr address && nat_le (address + 8) (h.vaddr + h.size))
+-- the segment is memory that has all of `len` bytes from an address on
+abbrev pub head_holds : (address len : ℕ) → SegmentHead → Bool
+head_holds address len h = is_memory h && (nat_le h.vaddr address && nat_le (address + len) (h.vaddr + h.size))
+
+-- the addresses that a segment has in memory, which lead to whether it is executable; one that isn't memory has none
+abbrev pub head_span : SegmentHead → Span Bool
+head_span h = record { start = h.vaddr; size = (if is_memory h then h.memory_size else 0); leads_to = h.executable }
 
 -- the segment has its address where the memory before it ends, or after
 abbrev pub rises : (end : ℕ) → SegmentHead → Bool
@@ -34,6 +39,10 @@ rises end h = not (is_memory h) || nat_le end h.vaddr
 -- where the memory up to a segment ends
 abbrev pub end_after : (end : ℕ) → SegmentHead → ℕ
 end_after end h = if is_memory h then h.vaddr + h.size else end
+
+-- the addresses at which a segment has bytes, which lead to it; one that isn't memory has none
+abbrev pub held_span : SegmentHead → Span SegmentHead
+held_span h = record { start = h.vaddr; size = (if is_memory h then h.size else 0); leads_to = h }
 
 -- each segment has its address where the memory before it ends, or after
 abbrev pub heads_rise : (end : ℕ) → List SegmentHead → Bool

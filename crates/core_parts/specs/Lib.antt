@@ -7,3 +7,4 @@ pub mod Whole
 pub mod Partial
 pub mod Loaded
 pub mod Walked
+pub mod Input

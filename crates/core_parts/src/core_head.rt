@@ -1,15 +1,18 @@
 //! What the headers and the notes of a core file say.
 
-ghost use Rattle.std.specs.Prelude.{◌≡◌, ◌≤◌, ℕ, List, true, length, IfOk, IfSome};
+ghost use Rattle.std.specs.Prelude.{◌≡◌, ◌+◌, ◌<◌, ◌≤◌, ◌^◌, ℕ, List, true, length, IfOk, IfSome};
+ghost use Rattle.std.specs.Option.{option_map};
 ghost use Rattle.sf_bytes.specs.Parts.{IsPart};
+ghost use Rattle.core_notes.specs.Listing.{notes_from, whole_notes};
+ghost use Rattle.core_notes.specs.Thread.{file_note_in};
 ghost use Rattle.core_notes.specs.Views.{threads_left};
 ghost use Rattle.core_parts.specs.Heads.{heads_lie, heads_rise};
-ghost use Rattle.core_parts.specs.Whole.{AreRead, AreThreads, IsHeadOf, IsWholeOf};
+ghost use Rattle.core_parts.specs.Whole.{AreRead, AreThreads, IsHeadOf, IsWholeOf, part_cursor};
 
 use crate::header::arch_of;
 use crate::segment::SegmentHead;
 use crate::table::{heads_of, only_note};
-use core_notes::{Thread, ThreadIter, threads_of_segment};
+use core_notes::{Thread, ThreadIter, file_note_of_segment, threads_of_segment};
 use elf_read::layout::FILE_HEADER_LEN;
 use sf_base::NoMemory;
 use sf_bytes::{FilePart, Part};
@@ -26,6 +29,8 @@ pub struct CoreHead {
     pub heads: Vec<SegmentHead>,
     /// Its threads, in the order of their notes.
     pub threads: Vec<Thread>,
+    /// The descriptor of its first note on mapped files, if it has one.
+    pub file_note: Option<FilePart>,
 }
 
 // A core file has no more threads.
@@ -47,6 +52,7 @@ fn threads_of(
 ) -> Result<Option<Vec<Thread>>, NoMemory>
     ensures are { IfOk result (λ found. IfSome found (λ threads. AreThreads arch heads.now notes.now threads.items)) }
     ensures few { IfOk result (λ found. IfSome found (λ threads. length threads.items ≤ 4096)) }
+    ensures fits { IfOk result (λ found. IfSome found (λ _. notes.now.place + length notes.now.bytes.items < 2 ^ 64)) }
 {
     let Some(note) = only_note(heads) else {
         return Ok(None);
@@ -68,6 +74,21 @@ fn threads_of(
     Ok(Some(threads))
 }
 
+// Returns the descriptor of the first note on mapped files, of the notes that are this part of a core file.
+fn file_note_of(alloc: Global, notes: &FilePart) -> Result<Option<FilePart>, NoMemory>
+    requires { notes.now.place + length notes.now.bytes.items < 2 ^ 64 }
+    ensures fits { IfOk result (λ found. IfSome found (λ note. note.place + length note.bytes.items < 2 ^ 64)) }
+    ensures note { IfOk result (λ found. file_note_in (whole_notes (notes_from (part_cursor notes.now))) ≡ option_map part_cursor found) }
+{
+    let Some(note) = file_note_of_segment(Part::new(&notes.bytes, notes.place)) else {
+        return Ok(None);
+    };
+    Ok(Some(FilePart {
+        place: note.place,
+        bytes: Vec::from_slice(alloc, note.bytes)?,
+    }))
+}
+
 // Returns what these parts of a core file say: its file header, its program headers and its one segment of notes.
 fn head_by(
     alloc: Global,
@@ -78,6 +99,7 @@ fn head_by(
 ) -> Result<Option<CoreHead>, NoMemory>
     ensures head { IfOk result (λ found. IfSome found (λ head. AreRead header.now table.now notes.now len head)) }
     ensures few { IfOk result (λ found. IfSome found (λ head. length head.threads.items ≤ 4096)) }
+    ensures fits { IfOk result (λ found. IfSome found (λ head. IfSome head.file_note (λ note. note.place + length note.bytes.items < 2 ^ 64))) }
 {
     if header.place != 0 || header.bytes.len() as u64 != FILE_HEADER_LEN {
         return Ok(None);
@@ -89,10 +111,12 @@ fn head_by(
     let Some(threads) = threads_of(alloc, arch, &heads, notes)? else {
         return Ok(None);
     };
+    let file_note = file_note_of(alloc, notes)?;
     Ok(Some(CoreHead {
         arch,
         heads,
         threads,
+        file_note,
     }))
 }
 
@@ -113,6 +137,7 @@ fn part_at(file: &FileParts, number: usize) -> Option<&FilePart>
 pub fn head_of(alloc: Global, file: &FileParts) -> Result<Option<CoreHead>, NoMemory>
     ensures head { IfOk result (λ found. IfSome found (λ head. (whole : List ℕ) → IsWholeOf file.now whole → IsHeadOf head whole)) }
     ensures few { IfOk result (λ found. IfSome found (λ head. length head.threads.items ≤ 4096)) }
+    ensures fits { IfOk result (λ found. IfSome found (λ head. IfSome head.file_note (λ note. note.place + length note.bytes.items < 2 ^ 64))) }
     ensures lie { IfOk result (λ found. IfSome found (λ head. heads_lie file.now.len head.heads.items ≡ true)) }
     ensures rise { IfOk result (λ found. IfSome found (λ head. heads_rise 0 head.heads.items ≡ true)) }
 {

@@ -12,7 +12,7 @@ ghost use Rattle.core_parts.specs.Whole.{IsWholeOf};
 use crate::core_file::core_of;
 use crate::header::{e_phnum, e_phoff};
 use crate::partial_core::PartialCore;
-use crate::reading::{Window, read_window, stack_addresses};
+use crate::reading::{BLOCK, STACK, Window, are_few, file_addresses, read_window, stack_addresses};
 use crate::segment::PT_NOTE;
 use crate::table::head_at;
 use elf_read::layout::{FILE_HEADER_LEN, PROGRAM_HEADER_LEN};
@@ -23,8 +23,8 @@ use std::alloc::Global;
 /// What is to be read of a core file.
 #[derive(Clone, Copy)]
 pub enum Wanted<'a> {
-    /// What its checks and its threads need, and of its memory what there is at the threads' stack pointers and at these
-    /// addresses.
+    /// What its checks and its threads need, and of its memory what there is from the threads' stack pointers on, where
+    /// mapped files begin, and at these addresses.
     Memory(&'a [u64]),
     /// All of it.
     Whole,
@@ -110,9 +110,9 @@ fn read_planned<F: Files>(
     }
 }
 
-// Reads the parts of the open file, of this length, that its checks and its threads need, and what the memory has at the
-// threads' stack pointers and at these addresses. Nothing if it isn't clear that these are enough, or if what the memory has
-// at one of the addresses can't be read.
+// Reads the parts of the open file, of this length, that its checks and its threads need, and what the memory has from the
+// threads' stack pointers on, where mapped files begin, and at these addresses. Nothing if it isn't clear that these are
+// enough, if there are many, or if what the memory has at one of the addresses can't be read.
 fn parts_of<F: Files>(
     alloc: Global,
     files: &mut F,
@@ -142,8 +142,14 @@ fn parts_of<F: Files>(
         return Ok(None);
     };
     let stacks = stack_addresses(alloc, core.threads())?;
-    core.read_blocks(alloc, files, &stacks)?;
-    if !core.read_blocks(alloc, files, addresses)? {
+    let mapped = file_addresses(alloc, core.head.file_note.as_ref())?;
+    let count = stacks.len().saturating_add(mapped.len());
+    if !are_few(core.head.heads.len(), count.saturating_add(addresses.len())) {
+        return Ok(None);
+    }
+    core.read_blocks(alloc, files, &stacks, STACK)?;
+    core.read_blocks(alloc, files, &mapped, BLOCK)?;
+    if !core.read_blocks(alloc, files, addresses, BLOCK)? {
         return Ok(None);
     }
     Ok(Some(PartialCore::new(files, core)))

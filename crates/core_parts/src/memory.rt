@@ -1,6 +1,6 @@
 //! The memory of a core file of which parts were read.
 
-ghost use Rattle.std.specs.Prelude.{◌≡◌, ◌+◌, ◌-◌, ◌++◌, Some, None, length, map, if◌then◌else◌, IfOk, OnOk};
+ghost use Rattle.std.specs.Prelude.{◌≡◌, ◌+◌, ◌-◌, ◌++◌, Some, None, length, map, if◌then◌else◌, IfOk, IfSome, OnOk};
 ghost use Rattle.std.specs.Option.{option_map};
 ghost use Rattle.std.specs.List.{find};
 ghost use Rattle.sf_lookup.specs.Spans.{InOrder};
@@ -107,6 +107,8 @@ fn spans_of<'a>(alloc: Global, blocks: &[Block<'a>]) -> Result<Vec<Span<Block<'a
 }
 
 impl<'a> PartMemory<'a> {
+    ghost use Rattle.std.specs.Prelude.{◌<◌};
+    ghost use Rattle.core_notes.specs.MemoryBytes as held;
     ghost use Rattle.core_parts.specs.PartMemory.{part_regions};
 
     /// Puts the memory in order, as far as these parts of a file with these segments have it.
@@ -129,6 +131,22 @@ impl<'a> PartMemory<'a> {
         ensures { option_map block_region result ≡ find (holds_eight address) (part_regions self.now) }
     {
         self.order.first_at(address)
+    }
+
+    /// Finds `len` bytes from an address on, by the first block that has them all. Fewer than eight are not looked for.
+    pub fn bytes_at(&self, address: u64, len: u64) -> Option<&'a [u8]>
+        ensures { IfSome result (λ bytes. (0 < len) × (held.bytes_at (part_regions self.now) address len ≡ Some bytes.now)) }
+    {
+        if len < 8 {
+            return None;
+        }
+        let block = self.block_at(address)?;
+        let (_, rest) = block.bytes.split_at((address - block.start) as usize);
+        if (rest.len() as u64) < len {
+            return None;
+        }
+        let (held, _) = rest.split_at(len as usize);
+        Some(held)
     }
 
     // Returns the number in the eight bytes from an address on, if they were read.

@@ -5,10 +5,12 @@ ghost use Rattle.sf_bytes.specs.Parts.{AreParts};
 ghost use Rattle.std.proofs.Props.{props};
 
 use crate::core_file::CoreParts;
-use crate::memory::PartMemory;
+use crate::partial_memory::PartialMemory;
+use crate::segment::SegmentHead;
 use boxcar::tag::Tag;
 use core_notes::Thread;
 use sf_base::Files;
+use sf_bytes::Part;
 use sf_model::Arch;
 use sf_parts::whole_of;
 use std::alloc::{AllocError, Global};
@@ -25,14 +27,19 @@ pub struct PartialCore {
 
 impl PartialCore {
     ghost use Rattle.core_notes.specs.Checks.{core_check, file_threads};
+    ghost use Rattle.core_notes.specs.Listing.{notes_in, whole_notes};
     ghost use Rattle.core_notes.specs.Memory.{file_regions};
-    ghost use Rattle.core_walk.specs.PartWalk.{IsPartOf};
-    ghost use Rattle.core_parts.specs.PartMemory.{part_regions};
+    ghost use Rattle.core_notes.specs.Thread.{file_note_in};
+    ghost use Rattle.core_notes.specs.MemoryBytes as held;
+    ghost use Rattle.core_notes.specs.MemoryBytes.{load_spans};
+    ghost use Rattle.core_parts.specs.Heads.{head_span};
     ghost use Rattle.core_parts.specs.Partial.{partial_file};
     ghost use Rattle.core_parts.specs.Whole.{IsWholeOf};
     ghost use Rattle.elf_read.specs.Header as header;
     ghost use Rattle.sf_model.specs.Memory.{read_eight};
-    ghost use Rattle.std.specs.Prelude.{◌≤◌, Ok, is_some, IfOk, IfSome};
+    ghost use Rattle.std.specs.Prelude.{◌≤◌, Ok, is_some, map, IfOk, IfSome};
+    ghost use Rattle.std.specs.Option.{option_map};
+    ghost use Rattle.sf_bytes.specs.Cursor.{cursor};
 
     /// Creates the core file of which these parts were read of the open file.
     pub fn new<F: Files>(files: &F, core: CoreParts) -> PartialCore
@@ -71,13 +78,29 @@ impl PartialCore {
         self.core.threads()
     }
 
+    /// Returns the descriptor of the first note that lists the mapped files, if there is one.
+    pub fn file_note(&self) -> Option<Part<'_>>
+        ensures { option_map cursor result ≡ file_note_in (whole_notes (notes_in (partial_file self.now))) }
+    {
+        self.core.file_note()
+    }
+
+    /// Returns the program headers.
+    pub fn heads(&self) -> &[SegmentHead]
+        ensures are { result.now ≡ self.now.core.head.heads.items }
+        ensures spans { load_spans (partial_file self.now) ≡ map head_span result.now }
+    {
+        &self.core.head.heads
+    }
+
     /// Returns the memory, as far as it was read.
     ///
     /// `AllocError` if out of memory.
-    pub fn memory(&self, alloc: Global) -> Result<PartMemory<'_>, AllocError>
-        ensures { IfOk result (λ memory. IsPartOf (part_regions memory) (file_regions (partial_file self.now))) }
+    pub fn memory(&self, alloc: Global) -> Result<PartialMemory<'_>, AllocError>
+        ensures { IfOk result (λ memory. memory.core.now ≡ self.now) }
     {
-        self.core.memory(alloc)
+        let memory = self.core.memory(alloc)?;
+        Ok(PartialMemory { core: self, memory })
     }
 
     /// Returns whether the whole memory has the eight bytes from an address on, read or not.
@@ -85,5 +108,12 @@ impl PartialCore {
         ensures { result ≡ is_some (read_eight (file_regions (partial_file self.now)) address) }
     {
         self.core.holds(address)
+    }
+
+    /// Returns whether the whole memory has `len` bytes from an address on in one segment, read or not.
+    pub fn holds_bytes(&self, address: u64, len: u64) -> bool
+        ensures { result ≡ is_some (held.bytes_at (file_regions (partial_file self.now)) address len) }
+    {
+        self.core.holds_bytes(address, len)
     }
 }

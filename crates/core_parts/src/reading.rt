@@ -9,13 +9,26 @@ ghost use Rattle.core_parts.specs.Whole.{IsWholeOf};
 use crate::core_file::CoreParts;
 use crate::segment::{SegmentHead, head_holds};
 use core_notes::Thread;
+use elf_read::u64_at;
 use sf_base::{Files, LoadFault, NoMemory, read_part};
 use sf_bytes::FilePart;
 use sf_parts::FileParts;
 use std::alloc::Global;
 
-// How many bytes of a segment are read at once. A block begins at a multiple of it in its segment.
-const BLOCK: u64 = 1 << 16;
+/// How many bytes a block has. It begins at a multiple of this in its segment, and ends there or with the segment.
+pub const BLOCK: u64 = 1 << 16;
+/// How many bytes of a stack are read at first: a number of blocks.
+pub const STACK: u64 = 1 << 19;
+// How many times a segment or a part is looked at, at most, to find all addresses: else reading the whole file is as fast.
+const LOOKS: u64 = 1 << 24;
+// The most mapped files of which the first page is read at first.
+const MAPPED_FILES: u64 = 1 << 12;
+// The note on mapped files: how many bytes are before its entries, how many each has, and where in it its offset is.
+const NOTE_HEADER_LEN: u64 = 16;
+
+const ENTRY_LEN: u64 = 24;
+
+const ENTRY_OFFSET: u64 = 16;
 
 /// Where bytes of a file are: the place of the first, and how many there are.
 #[derive(Clone, Copy)]
@@ -26,21 +39,21 @@ pub struct Window {
     pub size: u64,
 }
 
-// Returns the block of a segment that has an address.
-fn block_of(head: &SegmentHead, address: u64) -> Option<Window> {
+// Returns the block of a segment that has an address and the blocks after it, up to `most` bytes.
+fn blocks_of(head: &SegmentHead, address: u64, most: u64) -> Option<Window> {
     let skip = address.checked_sub(head.vaddr)? / BLOCK * BLOCK;
     let left = head.size.checked_sub(skip)?;
     Some(Window {
         place: head.place.checked_add(skip)?,
-        size: left.min(BLOCK),
+        size: left.min(most),
     })
 }
 
-// Returns the block of the first segment that has the eight bytes from an address on. Nothing is stated: what is read is a
-// part of the file, whichever it is.
-fn block_at(heads: &[SegmentHead], address: u64) -> Option<Window> {
-    let head = heads.iter().find(|head| head_holds(head, address))?;
-    block_of(head, address)
+// Returns the blocks of the first segment that has the eight bytes from an address on: the one of these bytes and those after
+// it, up to `most` bytes. Nothing is stated: what is read is a part of the file, whichever it is.
+fn blocks_at(heads: &[SegmentHead], address: u64, most: u64) -> Option<Window> {
+    let head = heads.iter().find(|head| head_holds(head, address, 8))?;
+    blocks_of(head, address, most)
 }
 
 /// Reads a window of the open file, and returns whether it was added to the parts that were read of it.
@@ -78,31 +91,54 @@ pub fn read_window<F: Files>(
     }
 }
 
-// Returns whether a window was read already.
-fn was_read(parts: &[FilePart], window: Window) -> bool {
-    parts.iter().any(|part| part.place == window.place && part.bytes.len() as u64 == window.size)
+// Returns whether a part has some of a window.
+fn overlaps(part: &FilePart, window: Window) -> bool {
+    u128::from(part.place) < u128::from(window.place) + u128::from(window.size)
+        && u128::from(window.place) < u128::from(part.place) + part.bytes.len() as u128
 }
 
-/// Returns the addresses at which the stacks of threads are read: of each its stack pointer, and one half of a block
-/// above. Nothing is stated: a walk says which addresses it misses.
+/// Returns whether it takes little time to read blocks at this number of addresses of a file with this number of segments: for each
+/// address all segments, and all parts that were read, are looked at.
+pub fn are_few(segments: usize, addresses: usize) -> bool {
+    let looks = (segments as u64).saturating_add(addresses as u64);
+    looks.saturating_mul(addresses as u64) <= LOOKS
+}
+
+/// Returns the threads' stack pointers. Nothing is stated: a walk says which addresses it misses.
 pub fn stack_addresses(alloc: Global, threads: &[Thread]) -> Result<Vec<u64>, NoMemory> {
-    let mut addresses = Vec::new(alloc);
+    let mut addresses = Vec::with_capacity(alloc, threads.len())?;
     for thread in threads {
         addresses.push(thread.regs.sp)?;
-        addresses.push(thread.regs.sp.saturating_add(BLOCK / 2))?;
+    }
+    Ok(addresses)
+}
+
+/// Returns the addresses at which mapped files begin, by the note on them: there is the build identifier of most. Nothing is
+/// stated: who reads a build identifier says which addresses it misses.
+pub fn file_addresses(alloc: Global, note: Option<&FilePart>) -> Result<Vec<u64>, NoMemory> {
+    let mut addresses = Vec::new(alloc);
+    let Some(note) = note else {
+        return Ok(addresses);
+    };
+    for k in 0..u64_at(&note.bytes, 0).min(MAPPED_FILES) {
+        let place = ENTRY_LEN * k + NOTE_HEADER_LEN;
+        if u64_at(&note.bytes, place + ENTRY_OFFSET) == 0 {
+            addresses.push(u64_at(&note.bytes, place))?;
+        }
     }
     Ok(addresses)
 }
 
 impl CoreParts {
-    // Reads of the open file, which has to be this core file, the block of 65,536 bytes of a segment that has the eight
-    // bytes from an address on, and returns whether it was read now or before: no segment may have them, or the block may
-    // overlap what was read.
-    fn read_block<F: Files>(
+    // Reads of the open file, which has to be this core file, the block of a segment that has the eight bytes from an address
+    // on and those after it, up to `most` bytes, and returns whether they were read: no segment may have them, or some were read
+    // before.
+    fn read_blocks_at<F: Files>(
         &mut self,
         alloc: Global,
         files: &mut F,
         address: u64,
+        most: u64,
     ) -> Result<bool, LoadFault>
         requires opened { IsTrue (F.opened files.old) }
         requires whole { IfSome ((F.seen files.old).contents) (λ _. IsWholeOf self.old.file (F.whole files.old)) }
@@ -121,16 +157,18 @@ impl CoreParts {
         ensures reads { OnlyReads (F.seen files.old) (F.seen files.new) }
         ensures same { OnOk result (F.seen files.new ≡ F.seen files.old) }
     {
-        match block_at(&self.head.heads, address) {
-            Some(window) if was_read(&self.file.parts, window) => Ok(true),
-            Some(window) => read_window(alloc, files, &mut self.file, window),
-            None => Ok(false),
+        let Some(window) = blocks_at(&self.head.heads, address, most) else {
+            return Ok(false);
+        };
+        if self.file.parts.iter().any(|part| overlaps(part, window)) {
+            return Ok(false);
         }
+        read_window(alloc, files, &mut self.file, window)
     }
 
-    /// Reads of the open file, which has to be this core file, the blocks of 65,536 bytes of segments that have the eight
-    /// bytes from each of these addresses on, and returns whether all were read: no segment may have them, or a block may
-    /// overlap what was read.
+    /// Reads of the open file, which has to be this core file, the blocks of segments that have the eight bytes from each of
+    /// these addresses on and those after them, up to `most` bytes, and returns whether all were read: no segment may have
+    /// them, or some were read before.
     ///
     /// # Errors
     ///
@@ -140,6 +178,7 @@ impl CoreParts {
         alloc: Global,
         files: &mut F,
         addresses: &[u64],
+        most: u64,
     ) -> Result<bool, LoadFault>
         requires opened { IsTrue (F.opened files.old) }
         requires whole { IfSome ((F.seen files.old).contents) (λ _. IsWholeOf self.old.file (F.whole files.old)) }
@@ -160,7 +199,7 @@ impl CoreParts {
     {
         let mut all = true;
         for address in addresses {
-            if !self.read_block(alloc, files, *address)? {
+            if !self.read_blocks_at(alloc, files, *address, most)? {
                 all = false;
             }
         }

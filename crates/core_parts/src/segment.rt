@@ -21,6 +21,10 @@ pub struct SegmentHead {
     pub place: u64,
     /// How many bytes it has in the file.
     pub size: u64,
+    /// How many bytes it has in memory.
+    pub memory_size: u64,
+    /// Whether it may be executed.
+    pub executable: bool,
 }
 
 /// Returns whether the segment is memory.
@@ -31,14 +35,14 @@ pub fn is_memory(head: &SegmentHead) -> bool
     head.kind == PT_LOAD
 }
 
-/// Returns whether the segment is memory that has the eight bytes from an address on.
+/// Returns whether the segment is memory that has all of `len` bytes from an address on.
 #[inline(always)]
-pub fn head_holds(head: &SegmentHead, address: u64) -> bool
-    ensures { result ≡ spec.head_holds address head.now }
+pub fn head_holds(head: &SegmentHead, address: u64, len: u64) -> bool
+    ensures { result ≡ spec.head_holds address len head.now }
 {
     is_memory(head)
         && head.vaddr <= address
-        && u128::from(address) + 8 <= u128::from(head.vaddr) + u128::from(head.size)
+        && u128::from(address) + u128::from(len) <= u128::from(head.vaddr) + u128::from(head.size)
 }
 
 /// Returns whether a segment that is memory has its address where the memory before it ends, or after.
@@ -87,11 +91,11 @@ pub fn heads_lie(heads: &[SegmentHead], len: u64) -> bool
     heads.iter().all(|head| head_lies(head, len))
 }
 
-// Returns whether one of the segments is memory that has the eight bytes from an address on.
-fn any_holds(heads: &[SegmentHead], address: u64) -> bool
-    ensures { result ≡ list_any (spec.head_holds address) heads.now }
+/// Returns whether one of the segments is memory that has all of `len` bytes from an address on, read or not.
+pub fn any_holds(heads: &[SegmentHead], address: u64, len: u64) -> bool
+    ensures { result ≡ list_any (spec.head_holds address len) heads.now }
 {
-    heads.iter().any(|head| head_holds(head, address))
+    heads.iter().any(|head| head_holds(head, address, len))
 }
 
 /// Returns whether the memory of these segments has the eight bytes from an address on, read or not.
@@ -99,5 +103,5 @@ pub fn heads_hold(heads: &[SegmentHead], address: u64) -> bool
     ensures { (file : List ℕ) → spec.heads_lie (length file) heads.now ≡ true
         → result ≡ is_some (read_eight (spec.memory_in file heads.now) address) }
 {
-    address <= u64::MAX - 7 && any_holds(heads, address)
+    address <= u64::MAX - 7 && any_holds(heads, address, 8)
 }

@@ -2,16 +2,26 @@
 
 ghost use Rattle.std.specs.Prelude.{◌≡◌, [], ◌∷◌, map, filter, length, IfOk, IfSome};
 ghost use Rattle.std.specs.List.{find, range_with_len};
+ghost use Rattle.elf_read.specs.Number.{has_flag};
 ghost use Rattle.core_parts.specs.Heads.{is_note};
 ghost use Rattle.core_parts.specs.Table as spec;
 
 use crate::header::{e_phnum, is_core_header, is_table};
 use crate::segment::{PT_NOTE, SegmentHead, heads_lie, heads_rise};
-use elf_read::layout::{P_FILESZ, P_OFFSET, P_TYPE, P_VADDR, PROGRAM_HEADER_LEN};
+use elf_read::layout::{
+    P_FILESZ, P_FLAGS, P_MEMSZ, P_OFFSET, P_TYPE, P_VADDR, PF_X, PROGRAM_HEADER_LEN,
+};
 use elf_read::{u32_at, u64_at};
 use sf_base::NoMemory;
 use sf_bytes::FilePart;
 use std::alloc::Global;
+
+// Returns whether the flags of a segment have PF_X.
+fn is_executable(flags: u32) -> bool
+    ensures { result ≡ has_flag flags 1 }
+{
+    u64::from(flags) / PF_X % 2 == 1
+}
 
 /// Returns a program header of a table.
 pub fn head_at(table: &[u8], i: u16) -> SegmentHead
@@ -23,6 +33,8 @@ pub fn head_at(table: &[u8], i: u16) -> SegmentHead
         vaddr: u64_at(table, at + P_VADDR),
         place: u64_at(table, at + P_OFFSET),
         size: u64_at(table, at + P_FILESZ),
+        memory_size: u64_at(table, at + P_MEMSZ),
+        executable: is_executable(u32_at(table, at + P_FLAGS)),
     }
 }
 

@@ -1,0 +1,6 @@
+use Rattle.std.proofs.Common.{◌≡◌, take, map}
+use Rattle.core_parts.specs.Heads.{head_span}
+use Rattle.core_parts.proofs.input_map.head_spans.Given as goal
+
+abbrev pub invariant-loop-head : goal.invariant-loop-head
+invariant-loop-head l = l.spans.items ≡ map head_span (take l.head-index l.heads)
