@@ -3,13 +3,10 @@
 -- name, which a zero byte ends.
 use Rattle.std.specs.Prelude.{◌≡◌, ℕ, ◌+◌, ◌-◌, ◌*◌, ◌^◌, ◌==◌, Bool, false, ◌&&◌, nat_le, nat_lt, bytes_eq, List, [], ◌∷◌, ◌++◌, length, map, take, drop, Option, Some, None, Err, if◌then◌else◌}
 use Rattle.std.specs.Int.{is_power_of_two}
-use Rattle.std.specs.List.{enumerate_from, filter, find, flat_map, list_any}
-use Rattle.std.specs.Option.{option_map}
+use Rattle.std.specs.List.{enumerate_from, filter, flat_map, list_any}
 use Rattle.sf_bytes.specs.Cursor.{Cursor}
 use Rattle.elf_read.specs.Checking.{unless, ◌>>◌, each_below}
 use Rattle.elf_read.specs.Number.{field_at, lies_in}
-use Rattle.core_notes.specs.Note.{NoteView}
-use Rattle.core_notes.specs.Thread.{is_file_note}
 use Rattle.sf_modules.specs.declared.fault.ModuleFault.TheVariants.{NoFileNote, FileNote}
 use Rattle.sf_modules.specs.Entry.{EntryView}
 use Rattle.sf_modules.specs.Fault.{Check}
@@ -74,10 +71,6 @@ numbered_entry note k text = record { start = entry_start note k; end = entry_en
 -- the entries of these names, which are numbered from this number on
 abbrev pub numbered_entries : List ℕ → (number : ℕ) → (texts : List (List ℕ)) → List EntryView
 numbered_entries note number texts = map (λ (e : ℕ × List ℕ). numbered_entry note e.0 e.1) (enumerate_from number texts)
-
--- the descriptor of the first note on mapped files, with its place
-abbrev pub file_note_in : List NoteView → Option Cursor
-file_note_in notes = option_map (λ (n : NoteView). n.descriptor) (find is_file_note notes)
 
 -- these are the page size and the entries of this note
 pub record AreEntries (note : List ℕ) (page : ℕ) (entries : List EntryView) : Type 0 where

@@ -1,6 +1,6 @@
 -- A process as its core file shows it (Linux core files, NT_FILE).
-use Rattle.std.specs.Prelude.{ℕ, List, map}
-use Rattle.core_notes.specs.MemoryMap.{core_in}
+use Rattle.std.specs.Prelude.{ℕ, Bool, List, map}
+use Rattle.core_parts.specs.Input.{is_map_of_parts, map_file}
 use Rattle.sf_modules.specs.declared.process.Process.{Process}
 use Rattle.sf_modules.specs.Entry.{EntryView, mapping_view}
 
@@ -16,4 +16,8 @@ process_of core page entries = record { core = core; page = page; entries = entr
 
 -- a process as the code has it
 abbrev pub process_view : Process → ProcessView
-process_view p = process_of (core_in p.memory) p.page (map mapping_view p.entries.now)
+process_view p = process_of (map_file p.memory) p.page (map mapping_view p.entries.now)
+
+-- whether only parts of its core file were read
+abbrev pub is_process_of_parts : Process → Bool
+is_process_of_parts p = is_map_of_parts p.memory

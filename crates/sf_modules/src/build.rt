@@ -1,18 +1,19 @@
 //! Whether a file is the build that a process had (GNU NT_GNU_BUILD_ID).
 
-ghost use Rattle.std.specs.Prelude.{◌≡◌, ◌<◌, ◌^◌, ◌||◌, length, not};
+ghost use Rattle.std.specs.Prelude.{◌≡◌, ◌<◌, ◌^◌, ◌||◌, true, length, not, IfErr, IfOk};
 ghost use Rattle.std.specs.List.{list_all, list_any, range_with_len};
 ghost use Rattle.elf_read.specs.Sections.{segment_total};
 ghost use Rattle.elf_read.specs.Views.{file};
 ghost use Rattle.core_notes.specs.Note.{note_view};
 ghost use Rattle.core_notes.specs.SegmentNotes.{segment_notes};
-ghost use Rattle.core_notes.specs.MemoryMap.{core_in};
 ghost use Rattle.elf_load.specs.BuildId.{is_build_id};
+ghost use Rattle.core_parts.specs.Input.{is_map_of_parts, map_file};
 ghost use Rattle.sf_modules.specs.Build as spec;
 
 use crate::file::Program;
 use crate::layout::{GNU, NT_GNU_BUILD_ID, PT_LOAD};
-use core_notes::{MemoryMap, Note, SegmentNotes};
+use core_notes::{Note, SegmentNotes};
+use core_parts::{InputMap, Unread};
 use elf_read::Elf;
 
 // Returns whether a note is a build identifier.
@@ -51,66 +52,92 @@ fn is_loaded(program: &Program<'_>, i: u32) -> bool
 // its bytes there.
 #[tactic(auto, unfolding(crate::specs::Build::descriptor_agrees))]
 fn descriptor_agrees(
-    memory: &MemoryMap<'_>,
+    memory: &InputMap<'_>,
     elf: &Elf<'_>,
     base: u64,
     i: u32,
     note: &Note<'_>,
-) -> bool
-    ensures { result ≡ spec.descriptor_agrees (core_in memory.now) (file elf.now) base i (note_view note.now) }
+) -> Result<bool, Unread>
+    ensures agrees { IfOk result (λ agrees. agrees ≡ spec.descriptor_agrees (map_file memory.now) (file elf.now) base i (note_view note.now)) }
+    ensures unread { IfErr result (λ unread. is_map_of_parts memory.now ≡ true) }
 {
     let id = note.descriptor.bytes;
     if id.is_empty() {
-        return true;
+        return Ok(true);
     }
     let segment = elf.segment(i);
     let within = note.descriptor.place.saturating_sub(segment.place);
     let address = base.wrapping_add(segment.vaddr).wrapping_add(within);
-    match memory.bytes_at(address, id.len() as u64) {
-        Some(held) => id == held,
-        None => true,
+    match memory.bytes_at(address, id.len() as u64)? {
+        Some(held) => Ok(id == held),
+        None => Ok(true),
     }
 }
 
 // Returns whether a note is no build identifier or agrees.
-fn note_agrees(memory: &MemoryMap<'_>, elf: &Elf<'_>, base: u64, i: u32, note: &Note<'_>) -> bool
-    ensures { result ≡ spec.note_agrees (core_in memory.now) (file elf.now) base i (note_view note.now) }
+fn note_agrees(
+    memory: &InputMap<'_>,
+    elf: &Elf<'_>,
+    base: u64,
+    i: u32,
+    note: &Note<'_>,
+) -> Result<bool, Unread>
+    ensures agrees { IfOk result (λ agrees. agrees ≡ spec.note_agrees (map_file memory.now) (file elf.now) base i (note_view note.now)) }
+    ensures unread { IfErr result (λ unread. is_map_of_parts memory.now ≡ true) }
 {
-    !is_build_id(note) || descriptor_agrees(memory, elf, base, i, note)
+    if is_build_id(note) {
+        descriptor_agrees(memory, elf, base, i, note)
+    } else {
+        Ok(true)
+    }
 }
 
 // Returns whether each note of a segment is no build identifier or agrees.
-fn notes_agree(memory: &MemoryMap<'_>, elf: &Elf<'_>, base: u64, i: u32) -> bool
+fn notes_agree(memory: &InputMap<'_>, elf: &Elf<'_>, base: u64, i: u32) -> Result<bool, Unread>
     requires { length (file elf.now) < 2 ^ 32 }
-    ensures { result ≡ list_all (spec.note_agrees (core_in memory.now) (file elf.now) base i) (segment_notes (file elf.now) i) }
+    ensures agrees { IfOk result (λ agrees. agrees ≡ list_all (spec.note_agrees (map_file memory.now) (file elf.now) base i) (segment_notes (file elf.now) i)) }
+    ensures unread { IfErr result (λ unread. is_map_of_parts memory.now ≡ true) }
 {
     for note in SegmentNotes::new(elf, i) {
-        if !note_agrees(memory, elf, base, i, &note) {
-            return false;
+        if !note_agrees(memory, elf, base, i, &note)? {
+            return Ok(false);
         }
     }
-    true
+    Ok(true)
 }
 
 // Returns whether each build identifier of a segment agrees, if the segment is loaded.
 #[tactic(auto, unfolding(crate::specs::Build::segment_agrees))]
-fn segment_agrees(memory: &MemoryMap<'_>, program: &Program<'_>, base: u64, i: u32) -> bool
+fn segment_agrees(
+    memory: &InputMap<'_>,
+    program: &Program<'_>,
+    base: u64,
+    i: u32,
+) -> Result<bool, Unread>
     requires { length (file program.now.elf) < 2 ^ 32 }
-    ensures { result ≡ spec.segment_agrees (core_in memory.now) (file program.now.elf) base i }
+    ensures agrees { IfOk result (λ agrees. agrees ≡ spec.segment_agrees (map_file memory.now) (file program.now.elf) base i) }
+    ensures unread { IfErr result (λ unread. is_map_of_parts memory.now ≡ true) }
 {
-    notes_agree(memory, &program.elf, base, i) || !is_loaded(program, i)
+    Ok(notes_agree(memory, &program.elf, base, i)? || !is_loaded(program, i))
 }
 
 /// Returns whether a program, mapped with this base, is the build that a process had: each of its build identifiers is in
 /// the memory of the core file, or isn't all there.
-pub fn is_same_build(memory: &MemoryMap<'_>, program: &Program<'_>, base: u64) -> bool
+///
+/// `Unread` if the part of the memory that has one of them wasn't read.
+pub fn is_same_build(
+    memory: &InputMap<'_>,
+    program: &Program<'_>,
+    base: u64,
+) -> Result<bool, Unread>
     requires { length (file program.now.elf) < 2 ^ 32 }
-    ensures { result ≡ spec.is_same_build (core_in memory.now) (file program.now.elf) base }
+    ensures agrees { IfOk result (λ agrees. agrees ≡ spec.is_same_build (map_file memory.now) (file program.now.elf) base) }
+    ensures unread { IfErr result (λ unread. is_map_of_parts memory.now ≡ true) }
 {
     for i in 0..program.count {
-        if !segment_agrees(memory, program, base, i) {
-            return false;
+        if !segment_agrees(memory, program, base, i)? {
+            return Ok(false);
         }
     }
-    true
+    Ok(true)
 }

@@ -1,5 +1,6 @@
 //! Why a process's modules aren't found.
 
+use core_parts::Unread;
 use elf_read::ElfFault;
 use sf_base::NoMemory;
 use sf_decode::DecodeFault;
@@ -28,6 +29,8 @@ pub enum ModuleFault {
     Build,
     /// The file's SFrame section is refused.
     Section(DecodeFault),
+    /// The core file was read by parts, and the part of its memory with this address was not read.
+    Unread(u64),
     /// Out of memory.
     NoMemory,
 }
@@ -51,6 +54,17 @@ impl From<DecodeFault> for ModuleFault {
 
     fn from(fault: DecodeFault) -> ModuleFault {
         ModuleFault::Section(fault)
+    }
+}
+
+impl From<Unread> for ModuleFault {
+    ghost use Rattle.std.specs.Prelude.{◌≡◌};
+    ghost use Rattle.sf_modules.specs.declared.fault.ModuleFault.TheVariants as fault;
+
+    ghost from_gives = { λ unread e. e ≡ fault.Unread unread.0 };
+
+    fn from(unread: Unread) -> ModuleFault {
+        ModuleFault::Unread(unread.0)
     }
 }
 

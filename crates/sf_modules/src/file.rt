@@ -7,7 +7,7 @@ ghost use Rattle.elf_read.specs.Sections.{section_count, segment_total};
 ghost use Rattle.elf_read.specs.Views.{file};
 ghost use Rattle.core_notes.specs.Room.{HeadersLie};
 ghost use Rattle.elf_load.specs.Segments.{page_floor};
-ghost use Rattle.sf_modules.specs.Fault.{verdict};
+ghost use Rattle.sf_modules.specs.Fault.{OnlyRefuses, verdict};
 ghost use Rattle.sf_modules.specs.File as spec;
 ghost use Rattle.sf_modules.specs.Reading.{headers_part, kind_part, section_part, segments_part};
 
@@ -26,7 +26,8 @@ pub fn page_floor(page: u64, n: u64) -> u64
 
 /// Checks that a file is an executable or a shared object.
 pub fn check_kind(elf: &Elf<'_>) -> Result<(), ModuleFault>
-    ensures { result ≡ kind_part (file elf.now) }
+    ensures check { result ≡ kind_part (file elf.now) }
+    ensures refusal { OnlyRefuses result }
 {
     match elf.kind() {
         Kind::Exec | Kind::Dyn => Ok(()),
@@ -58,6 +59,7 @@ fn sframe_section(elf: &Elf<'_>) -> Option<u32>
 /// Finds the number of a file's SFrame section.
 pub fn section_of(elf: &Elf<'_>) -> Result<u32, ModuleFault>
     ensures check { verdict result ≡ section_part (file elf.now) (spec.sframe_section (file elf.now)) }
+    ensures refusal { OnlyRefuses result }
     ensures value { IfOk result (λ i. spec.sframe_section (file elf.now) ≡ Some i) }
 {
     let Some(i) = sframe_section(elf) else {
@@ -72,6 +74,7 @@ pub fn section_of(elf: &Elf<'_>) -> Result<u32, ModuleFault>
 // Returns the number of a file's program headers.
 fn header_count(elf: &Elf<'_>) -> Result<u32, ModuleFault>
     ensures check { verdict result ≡ headers_part (program_headers_check (file elf.now)) }
+    ensures refusal { OnlyRefuses result }
     ensures value { IfOk result (λ count. count ≡ segment_total (file elf.now)) }
 {
     match elf.program_headers() {
@@ -109,6 +112,7 @@ pub struct Program<'f> {
 /// Reads the program headers of a file.
 pub fn program_of<'f>(elf: &Elf<'f>) -> Result<Program<'f>, ModuleFault>
     ensures check { verdict result ≡ segments_part (file elf.now) }
+    ensures refusal { OnlyRefuses result }
     ensures file { IfOk result (λ p. file p.elf ≡ file elf.now) }
     ensures load { IfOk result (λ p. spec.first_load (file elf.now) ≡ Some p.load) }
 {

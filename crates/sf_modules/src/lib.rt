@@ -8,6 +8,10 @@
 //! modules in order, once for all threads: [`Modules::number_at`] finds the module at an address, and [`Modules::walk`]
 //! lists a thread's frames. [`is_mapped_name`] says whether an entry has the last part of a word for a file.
 //!
+//! The core file may have been read by parts ([`core_parts::CoreInput`]); its note on mapped files is always there. Where a
+//! build identifier has to be compared with a part of the memory that was not read, the file is refused as
+//! [`ModuleFault::Unread`], with an address of that part.
+//!
 //! The meaning is a list of entries and a list of modules: at an address the first entry that holds it says which file is
 //! there, and the first module of that name answers by its own table (`found_in` of `specs/Found.antt`). A walk is
 //! `look_up_walk` of `sf_model` over that. [`modules_answer_as_their_union`] is a law: where each address of a function

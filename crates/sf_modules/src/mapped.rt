@@ -1,12 +1,13 @@
 //! A file that a process had mapped, with its SFrame section.
 
-ghost use Rattle.std.specs.Prelude.{◌≡◌, ◌<◌, ◌^◌, IfOk, length};
+ghost use Rattle.std.specs.Prelude.{◌≡◌, ◌<◌, ◌^◌, ℕ, true, IfOk, IsErrOf, length};
 ghost use Rattle.elf_read.specs.Sections.{section_fields};
 ghost use Rattle.elf_read.specs.Views.{file};
-ghost use Rattle.sf_modules.specs.Fault.{verdict};
+ghost use Rattle.sf_modules.specs.declared.fault.ModuleFault.TheVariants.{NoMemory, Unread};
+ghost use Rattle.sf_modules.specs.Fault.{FollowsCheck};
 ghost use Rattle.sf_modules.specs.Fit.{process_address};
 ghost use Rattle.sf_modules.specs.Module.{IsModule, module_view};
-ghost use Rattle.sf_modules.specs.Process.{process_view};
+ghost use Rattle.sf_modules.specs.Process.{is_process_of_parts, process_view};
 ghost use Rattle.sf_modules.specs.Reading.{module_check};
 
 use crate::fault::ModuleFault;
@@ -46,7 +47,8 @@ fn address_of(base: u64, elf: &Elf<'_>, section: u32) -> u64
 /// section is compressed; `Segments` if the program headers don't have the format's length, don't lie in the file or are of
 /// no loaded segment; `Elf` if the file has no room for its PT_NOTE segments together; `NotMapped` if no entry's name has
 /// the word's last part; `Mapping` if the file doesn't fit at any of the nearest; `Ambiguous` if it fits at two of different
-/// names; `Build` if the core file has another build identifier; `Section` if the section is refused.
+/// names; `Build` if the core file has another build identifier, or `Unread` if the part of it that shows this was not read;
+/// `Section` if the section is refused.
 #[tactic(auto, unfolding(crate::specs::Reading::module_check))]
 pub fn read_module<'p, 'a>(
     process: &Process<'p>,
@@ -56,8 +58,10 @@ pub fn read_module<'p, 'a>(
     requires { length bytes.now < 2 ^ 32 }
     // What was read is the module of the file.
     ensures sound { IfOk result (λ m. IsModule (process_view process.now) word.now bytes.now (module_view m)) }
-    // It is read exactly where no check fails; else the fault is that of the first that does.
-    ensures exact { verdict result ≡ module_check (process_view process.now) word.now bytes.now }
+    // It is read exactly where no check fails; else the fault is that of the first that does, unless a part wasn't read.
+    ensures exact { FollowsCheck (module_check (process_view process.now) word.now bytes.now) result }
+    ensures unread { (address : ℕ) → IsErrOf result (ModuleFault.Unread address) → is_process_of_parts process.now ≡ true }
+    ensures memory { IsErrOf result ModuleFault.NoMemory → ⊥ }
 {
     let elf = Elf::parse(bytes)?;
     check_kind(&elf)?;

@@ -6,7 +6,7 @@ ghost use Rattle.std.specs.Option.{option_map};
 ghost use Rattle.elf_read.specs.Views.{file};
 ghost use Rattle.sf_modules.specs.Candidates.{candidates};
 ghost use Rattle.sf_modules.specs.Entry.{mapping_view};
-ghost use Rattle.sf_modules.specs.Fault.{verdict};
+ghost use Rattle.sf_modules.specs.Fault.{OnlyRefuses, verdict};
 ghost use Rattle.sf_modules.specs.Match as spec;
 ghost use Rattle.sf_modules.specs.Process.{process_view};
 ghost use Rattle.sf_modules.specs.Reading.{nearest_part};
@@ -112,6 +112,7 @@ pub fn entry_of<'p>(
     program: &Program<'_>,
 ) -> Result<&'p Entry<'p>, ModuleFault>
     ensures check { verdict result ≡ nearest_part (process_view process.now) word.now (file program.now.elf) program.now.load }
+    ensures refusal { OnlyRefuses result }
     ensures value { IfOk result (λ e. spec.matching_entry (process_view process.now) word.now (file program.now.elf) program.now.load ≡ Some (mapping_view e.now)) }
 {
     let tail = longest_tail(process, word);

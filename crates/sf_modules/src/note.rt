@@ -1,13 +1,16 @@
 //! The note on mapped files of a core file (Linux core files, NT_FILE).
 
-ghost use Rattle.std.specs.Prelude.{◌≡◌, ◌+◌, ◌*◌, ◌<◌, ◌≤◌, IfOk, OnOk, drop, length, map, true};
+ghost use Rattle.std.specs.Prelude.{◌≡◌, ◌+◌, ◌*◌, ◌<◌, ◌≤◌, ℕ, IfOk, IsErrOf, OnOk, drop, length, map, true};
 ghost use Rattle.std.specs.List.{position};
 ghost use Rattle.std.specs.Option.{option_map};
 ghost use Rattle.sf_bytes.specs.Cursor.{cursor};
 ghost use Rattle.elf_read.specs.Checking.{each_below};
-ghost use Rattle.core_notes.specs.Views.{notes_of};
+ghost use Rattle.core_notes.specs.Listing.{notes_in, whole_notes};
+ghost use Rattle.core_notes.specs.Thread.{file_note_in};
+ghost use Rattle.core_parts.specs.Input.{input_file};
+ghost use Rattle.sf_modules.specs.declared.fault.ModuleFault.TheVariants.{Unread};
 ghost use Rattle.sf_modules.specs.Entry.{mapping_view};
-ghost use Rattle.sf_modules.specs.Fault.{FollowsCheck, verdict};
+ghost use Rattle.sf_modules.specs.Fault.{FollowsCheck, OnlyRefuses, verdict};
 ghost use Rattle.sf_modules.specs.Note as spec;
 ghost use Rattle.sf_modules.specs.TextsRead.{text_front};
 
@@ -17,7 +20,7 @@ use crate::layout::{
     DELETED, FILE_COUNT, FILE_END, FILE_ENTRY_LEN, FILE_NOTE_HEADER_LEN, FILE_OFFSET,
     FILE_PAGE_SIZE,
 };
-use core_notes::Core;
+use core_parts::CoreInput;
 use elf_read::u64_at;
 use sf_bytes::Part;
 use std::alloc::Global;
@@ -75,6 +78,7 @@ struct Header {
 #[tactic(auto, unfolding(crate::specs::Note::file_header_check))]
 fn read_header(note: &Part<'_>) -> Result<Header, ModuleFault>
     ensures check { verdict result ≡ spec.file_header_check (cursor note.now) }
+    ensures refusal { OnlyRefuses result }
     ensures count { IfOk result (λ h. h.count ≡ spec.file_entry_count note.now.bytes.now) }
     ensures page { IfOk result (λ h. h.page ≡ spec.page_size note.now.bytes.now) }
     ensures some { IfOk result (λ h. 0 < h.page) }
@@ -119,6 +123,7 @@ fn entry_at<'a>(
     requires within { 24 * k + 40 ≤ length note.now.bytes.now }
     requires page { page ≡ spec.page_size note.now.bytes.now }
     ensures check { verdict result ≡ spec.file_entry_check (cursor note.now) k }
+    ensures refusal { OnlyRefuses result }
     ensures value { IfOk result (λ e. mapping_view e ≡ spec.numbered_entry note.now.bytes.now k text.now) }
 {
     let place = FILE_ENTRY_LEN * k + FILE_NOTE_HEADER_LEN;
@@ -147,6 +152,7 @@ fn take_entries<'a>(
     requires within { 24 * header.now.count + 16 ≤ length note.now.bytes.now }
     requires names { spec.has_file_names (spec.file_entry_count note.now.bytes.now) (spec.names_part note.now.bytes.now) ≡ true }
     ensures check { FollowsCheck (each_below (spec.file_entry_count note.now.bytes.now) (spec.file_entry_check (cursor note.now))) result }
+    ensures read { (address : ℕ) → IsErrOf result (ModuleFault.Unread address) → ⊥ }
     ensures value { IfOk result (λ entries. spec.AreEntries note.now.bytes.now (spec.page_size note.now.bytes.now) (map mapping_view entries.items)) }
 {
     let mut entries = Vec::with_capacity(alloc, header.count as usize)?;
@@ -168,6 +174,7 @@ fn take_entries<'a>(
 fn read_note<'a>(alloc: Global, note: &Part<'a>) -> Result<(u64, Vec<Entry<'a>>), ModuleFault>
     ensures sound { IfOk result (λ r. spec.AreEntries note.now.bytes.now r.0 (map mapping_view r.1.items)) }
     ensures exact { FollowsCheck (spec.file_note_check (cursor note.now)) result }
+    ensures read { (address : ℕ) → IsErrOf result (ModuleFault.Unread address) → ⊥ }
     ensures page { IfOk result (λ r. 0 < r.0) }
 {
     let header = read_header(note)?;
@@ -182,11 +189,16 @@ fn read_note<'a>(alloc: Global, note: &Part<'a>) -> Result<(u64, Vec<Entry<'a>>)
 /// `NoFileNote` if there is no such note. `FileNote` if the note ends too early, its page size is no power of two, or an
 /// entry ends before it starts or has an offset that is no number of eight bytes: the first of these, with its place in the
 /// core file. `NoMemory` if out of memory.
-pub fn entries<'a>(alloc: Global, core: &Core<'a>) -> Result<(u64, Vec<Entry<'a>>), ModuleFault>
+pub fn entries<'a>(
+    alloc: Global,
+    core: &CoreInput<'a>,
+) -> Result<(u64, Vec<Entry<'a>>), ModuleFault>
     // What was read is the content of the note.
-    ensures sound { IfOk result (λ r. spec.HasEntries (spec.file_note_in (notes_of core.now)) r.0 (map mapping_view r.1.items)) }
+    ensures sound { IfOk result (λ r. spec.HasEntries (file_note_in (whole_notes (notes_in (input_file core.now)))) r.0 (map mapping_view r.1.items)) }
     // It is read where no check fails; else the fault is that of the first that does.
-    ensures exact { FollowsCheck (spec.file_entries_check (spec.file_note_in (notes_of core.now))) result }
+    ensures exact { FollowsCheck (spec.file_entries_check (file_note_in (whole_notes (notes_in (input_file core.now))))) result }
+    // No part is missing that it needs.
+    ensures read { (address : ℕ) → IsErrOf result (ModuleFault.Unread address) → ⊥ }
     ensures page { IfOk result (λ r. 0 < r.0) }
 {
     match core.file_note() {

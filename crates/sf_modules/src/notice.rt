@@ -9,8 +9,8 @@ use crate::fault::ModuleFault;
 use sf_model::{Group, Notice};
 
 impl ModuleFault {
-    /// Returns the fault of this item's file, as its line shows it. The caller owes that it is no limit of the section, and
-    /// not out of memory.
+    /// Returns the fault of this item's file, as its line shows it. The caller owes that it is no limit of the section,
+    /// not a part of the core file that wasn't read, and not out of memory.
     pub fn notice(&self, item: Option<u32>) -> Notice
         requires { IsTrue (is_module_refusal self.now) }
         ensures shown { shown_by result ≡ shown_of_module item self.now }
@@ -27,7 +27,7 @@ impl ModuleFault {
             ModuleFault::Ambiguous => Notice::new(item, Group::Module, 8),
             ModuleFault::Build => Notice::new(item, Group::Module, 9),
             ModuleFault::Section(fault) => fault.notice(item),
-            ModuleFault::NoMemory => unreachable!(),
+            ModuleFault::Unread(_) | ModuleFault::NoMemory => unreachable!(),
         }
     }
 }

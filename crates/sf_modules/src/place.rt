@@ -1,12 +1,13 @@
 //! Where a process had a file.
 
-ghost use Rattle.std.specs.Prelude.{◌≡◌, ◌<◌, ◌^◌, IfOk, length};
+ghost use Rattle.std.specs.Prelude.{◌≡◌, ◌<◌, ◌^◌, ℕ, true, IfOk, IsErrOf, length};
 ghost use Rattle.elf_read.specs.Views.{file};
+ghost use Rattle.sf_modules.specs.declared.fault.ModuleFault.TheVariants.{NoMemory, Unread};
 ghost use Rattle.sf_modules.specs.Entry.{mapping_view};
-ghost use Rattle.sf_modules.specs.Fault.{verdict};
+ghost use Rattle.sf_modules.specs.Fault.{FollowsCheck, OnlyRefuses};
 ghost use Rattle.sf_modules.specs.Mapped.{IsMapped, mapped_view};
 ghost use Rattle.sf_modules.specs.Module as spec;
-ghost use Rattle.sf_modules.specs.Process.{process_view};
+ghost use Rattle.sf_modules.specs.Process.{is_process_of_parts, process_view};
 ghost use Rattle.sf_modules.specs.Reading.{build_part, mapped_check, place_check, room_part};
 
 use crate::build::is_same_build;
@@ -46,13 +47,15 @@ fn check_build(
     entry: &Entry<'_>,
 ) -> Result<(), ModuleFault>
     requires { length (file program.now.elf) < 2 ^ 32 }
-    ensures { result ≡ build_part (process_view process.now) (file program.now.elf) program.now.load (mapping_view entry.now) }
+    ensures check { FollowsCheck (build_part (process_view process.now) (file program.now.elf) program.now.load (mapping_view entry.now)) result }
+    ensures unread { (address : ℕ) → IsErrOf result (ModuleFault.Unread address) → is_process_of_parts process.now ≡ true }
+    ensures memory { IsErrOf result ModuleFault.NoMemory → ⊥ }
 {
     if is_same_build(
         &process.memory,
         program,
         file_base(process.page, program, entry),
-    ) {
+    )? {
         Ok(())
     } else {
         Err(ModuleFault::Build)
@@ -63,7 +66,8 @@ fn check_build(
 fn check_notes(bytes: &[u8], program: &Program<'_>) -> Result<(), ModuleFault>
     requires small { length bytes.now < 2 ^ 32 }
     requires same { bytes.now ≡ file program.now.elf }
-    ensures { result ≡ room_part (file program.now.elf) }
+    ensures check { result ≡ room_part (file program.now.elf) }
+    ensures refusal { OnlyRefuses result }
 {
     check_room(bytes, &program.elf, program.count)?;
     Ok(())
@@ -80,7 +84,9 @@ pub fn place_of<'p>(
     requires small { length bytes.now < 2 ^ 32 }
     requires same { bytes.now ≡ file elf.now }
     ensures value { IfOk result (λ m. IsMapped (process_view process.now) word.now (file elf.now) (mapped_view m)) }
-    ensures check { verdict result ≡ place_check (process_view process.now) word.now (file elf.now) }
+    ensures check { FollowsCheck (place_check (process_view process.now) word.now (file elf.now)) result }
+    ensures unread { (address : ℕ) → IsErrOf result (ModuleFault.Unread address) → is_process_of_parts process.now ≡ true }
+    ensures memory { IsErrOf result ModuleFault.NoMemory → ⊥ }
 {
     let program = program_of(elf)?;
     check_notes(bytes, &program)?;
@@ -103,7 +109,7 @@ pub fn place_of<'p>(
 /// headers don't have the format's length, don't lie in the file or are of no loaded segment; `Elf` if the file has no room
 /// for its PT_NOTE segments together; `NotMapped` if no entry's name has the word's last part; `Mapping` if the file doesn't
 /// fit at any of the nearest; `Ambiguous` if it fits at two of different names; `Build` if the core file has another build
-/// identifier.
+/// identifier, or `Unread` if the part of it that shows this was not read.
 #[tactic(auto, unfolding(crate::specs::Reading::mapped_check))]
 pub fn mapped_file<'p>(
     process: &Process<'p>,
@@ -113,8 +119,10 @@ pub fn mapped_file<'p>(
     requires { length bytes.now < 2 ^ 32 }
     // This is where the process had the file.
     ensures sound { IfOk result (λ m. IsMapped (process_view process.now) word.now bytes.now (mapped_view m)) }
-    // It is found exactly where no check fails; else the fault is that of the first that does.
-    ensures exact { verdict result ≡ mapped_check (process_view process.now) word.now bytes.now }
+    // It is found exactly where no check fails; else the fault is that of the first that does, unless a part wasn't read.
+    ensures exact { FollowsCheck (mapped_check (process_view process.now) word.now bytes.now) result }
+    ensures unread { (address : ℕ) → IsErrOf result (ModuleFault.Unread address) → is_process_of_parts process.now ≡ true }
+    ensures memory { IsErrOf result ModuleFault.NoMemory → ⊥ }
 {
     let elf = Elf::parse(bytes)?;
     check_kind(&elf)?;

@@ -10,12 +10,12 @@ use crate::entry::Entry;
 use crate::last_parts::{LastParts, last_parts_of};
 use crate::name::last_part;
 use crate::stretches::Stretches;
-use core_notes::{Core, MemoryMap};
+use core_parts::{CoreInput, InputMap};
 use sf_base::NoMemory;
 use std::alloc::Global;
 
-/// A process: its core file, put in order, and the content of that file's note on mapped files, as [`crate::entries`] reads
-/// it.
+/// A process: its core file, as far as it was read, put in order, and the content of that file's note on mapped files, as
+/// [`crate::entries`] reads it.
 #[derive(Drop)]
 pub struct Process<'p> {
     /// The page size.
@@ -23,7 +23,7 @@ pub struct Process<'p> {
     /// The entries of the files that it had mapped.
     pub(crate) entries: &'p [Entry<'p>],
     /// The memory of the core file.
-    pub(crate) memory: MemoryMap<'p>,
+    pub(crate) memory: InputMap<'p>,
     /// The entries, put in order.
     pub(crate) stretches: Stretches<'p>,
     /// The entries by the last parts of their names.
@@ -35,25 +35,26 @@ pub struct Process<'p> {
 
 impl<'p> Process<'p> {
     ghost use Rattle.std.specs.Prelude.{◌≡◌, IfOk, map};
-    ghost use Rattle.core_notes.specs.Views.{core_bytes};
+    ghost use Rattle.core_parts.specs.Input.{input_file, is_by_parts};
     ghost use Rattle.sf_modules.specs.Candidates.{candidates};
     ghost use Rattle.sf_modules.specs.Entry.{mapping_view};
     ghost use Rattle.sf_modules.specs.LastParts.{candidates_left};
-    ghost use Rattle.sf_modules.specs.Process.{process_of, process_view};
+    ghost use Rattle.sf_modules.specs.Process.{is_process_of_parts, process_of, process_view};
 
     /// Puts a core file in order, with the page size and the entries of its note on mapped files, once for all files.
     ///
     /// `NoMemory` if out of memory.
     pub fn new(
         alloc: Global,
-        core: &Core<'p>,
+        core: &CoreInput<'p>,
         page: u64,
         entries: &'p [Entry<'p>],
     ) -> Result<Process<'p>, NoMemory>
         requires { 0 < page }
-        ensures { IfOk result (λ p. process_view p ≡ process_of (core_bytes core.now) page (map mapping_view entries.now)) }
+        ensures process { IfOk result (λ p. process_view p ≡ process_of (input_file core.now) page (map mapping_view entries.now)) }
+        ensures parts { IfOk result (λ p. is_process_of_parts p ≡ is_by_parts core.now) }
     {
-        let memory = MemoryMap::new(alloc, core)?;
+        let memory = InputMap::new(alloc, core)?;
         let stretches = Stretches::new(alloc, entries)?;
         let last_parts = last_parts_of(alloc, entries)?;
         Ok(Process {

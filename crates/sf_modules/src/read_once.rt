@@ -1,9 +1,10 @@
 //! Files that are given more than once: each is looked for once.
 
-ghost use Rattle.std.specs.Prelude.{◌≡◌, ◌<◌, ◌^◌, ◌&&◌, bytes_eq, IfOk, length};
-ghost use Rattle.sf_modules.specs.Fault.{verdict};
+ghost use Rattle.std.specs.Prelude.{◌≡◌, ◌<◌, ◌^◌, ◌&&◌, ℕ, true, bytes_eq, IfOk, IsErrOf, length};
+ghost use Rattle.sf_modules.specs.declared.fault.ModuleFault.TheVariants.{NoMemory, Unread};
+ghost use Rattle.sf_modules.specs.Fault.{FollowsCheck};
 ghost use Rattle.sf_modules.specs.Module.{IsModule, module_view};
-ghost use Rattle.sf_modules.specs.Process.{process_view};
+ghost use Rattle.sf_modules.specs.Process.{is_process_of_parts, process_view};
 ghost use Rattle.sf_modules.specs.ReadFile.{AreRead};
 ghost use Rattle.sf_modules.specs.Reading.{module_check};
 
@@ -45,8 +46,10 @@ pub fn read_module_once<'p, 'a>(
     requires before { AreRead (process_view process.now) files.now }
     // What was read is the module of the file.
     ensures sound { IfOk result (λ m. IsModule (process_view process.now) word.now bytes.now (module_view m)) }
-    // It is read exactly where no check fails; else the fault is that of the first that does.
-    ensures exact { verdict result ≡ module_check (process_view process.now) word.now bytes.now }
+    // It is read exactly where no check fails; else the fault is that of the first that does, unless a part wasn't read.
+    ensures exact { FollowsCheck (module_check (process_view process.now) word.now bytes.now) result }
+    ensures unread { (address : ℕ) → IsErrOf result (ModuleFault.Unread address) → is_process_of_parts process.now ≡ true }
+    ensures memory { IsErrOf result ModuleFault.NoMemory → ⊥ }
 {
     for file in files {
         if is_same(file, word, bytes) {

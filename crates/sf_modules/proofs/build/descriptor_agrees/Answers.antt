@@ -7,7 +7,7 @@ use Rattle.sf_model.specs.Memory.{Region}
 use Rattle.core_notes.specs.MemoryBytes.{bytes_at, holds_bytes, region_bytes}
 use Rattle.std.specs.Option.{option_map}
 use Rattle.core_notes.specs.Memory.{file_regions}
-use Rattle.core_notes.specs.MemoryMap.{core_in}
+use Rattle.core_parts.specs.Input.{map_file}
 use Rattle.core_notes.specs.Note.{note_view}
 use Rattle.elf_read.specs.Views.{file}
 use Rattle.sf_modules.specs.Build.{descriptor_address, descriptor_agrees}
@@ -27,9 +27,9 @@ empty_agrees : (memory : List Region) (address : ℕ) (id : List ℕ) → length
 empty_agrees memory address [] e = sym (nothing_agrees memory address)
 empty_agrees memory address (byte ∷ id) e = absurd (omega (e, arith))
 
-pub returns-then-is_empty : goal.returns-then-is_empty
+pub returns-then-is_empty-clause-agrees : goal.returns-then-is_empty-clause-agrees
 unfolding descriptor_agrees
-returns-then-is_empty c =
+returns-then-is_empty-clause-agrees c =
     let n = note_view c.args.note.now in
     let none : length n.descriptor.left ≡ 0 = eqb-true (length n.descriptor.left) 0 (sym c.is_empty.ensures ∙ c.if-is_empty.true) in
-    empty_agrees (file_regions (core_in c.args.memory.now)) (descriptor_address (file c.args.elf.now) c.args.base c.args.i n) n.descriptor.left none
+    empty_agrees (file_regions (map_file c.args.memory.now)) (descriptor_address (file c.args.elf.now) c.args.base c.args.i n) n.descriptor.left none

@@ -22,7 +22,7 @@ returns-clause-value c =
     let entry_is : matching_entry p word f load ≡ Some e = subst (λ (h : List ℕ). matching_entry p word h load ≡ Some e) same c.in_ok-entry.ensures.value in
     let placed = nearest_fine p word f load e near entry_is in
     let build : is_same_build p.core f (file_base f p.page e load) ≡ true =
-    subst (λ (h : List ℕ). is_same_build p.core h (file_base h p.page e load) ≡ true) same (build_fine p g load e (sym c.in_ok-check_build.ensures)) in
+    subst (λ (h : List ℕ). is_same_build p.core h (file_base h p.page e load) ≡ true) same (build_fine p g load e c.in_ok-check_build.ensures.check) in
     let base : c.file_base.result ≡ file_base f p.page e load = c.file_base.ensures ∙ ap (λ (h : List ℕ). file_base h p.page e load) same in
     record {
       load = load;

@@ -33,4 +33,4 @@ returns-then-is_same-clause-exact c =
     let p = process_view c.args.process.now in
     let file = c.file-item.result in
     let read : IsRead p file = subst (λ (f : ReadFile). IsRead p f) (sym c.file-item.is) (c.requires.before c.loop-file.file-index file c.loop-file-test.true) in
-    sym (read_of_same p c.args.word.now c.args.bytes.now file read (sym c.is_same.ensures ∙ c.if-is_same.true)).fine
+    (read_of_same p c.args.word.now c.args.bytes.now file read (sym c.is_same.ensures ∙ c.if-is_same.true)).fine
