@@ -4,3 +4,4 @@ pub mod Callers
 pub mod Frames
 pub mod Rows
 pub mod Same
+pub mod PartWalks

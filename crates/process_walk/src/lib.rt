@@ -10,6 +10,9 @@
 //! the address in the module there. What was interrupted is looked up at its own program counter. Without signal frames a
 //! walk is that of the rows: [`walks_without_signal_frames_are_by_rows`] is a law.
 //!
+//! A memory of which only parts were read serves too: a walk by it is the walk by the whole, unless it stopped at bytes
+//! that the whole has ([`a_walk_by_a_part_is_the_walk`]).
+//!
 //! The caller owes nothing. [`Process::new`] takes the time of [`sf_modules::Modules::new`], and of a sort of each module's
 //! signal frames. An address is then looked up by two searches by halves, and by two more where no row holds.
 #![tactic(auto)]
@@ -20,7 +23,7 @@ mod signals;
 mod stepping;
 mod walking;
 
-pub use laws::walks_without_signal_frames_are_by_rows;
+pub use laws::{a_walk_by_a_part_is_the_walk, walks_without_signal_frames_are_by_rows};
 pub use process::Process;
 pub use stepping::ProcessFrame;
 pub use walking::ProcessWalk;
