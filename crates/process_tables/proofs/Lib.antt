@@ -3,3 +3,4 @@ mod Tables
 pub mod Lookups
 mod Lines
 mod Ordered
+mod PartWalks

@@ -1,11 +1,16 @@
 -- Walks by sections that were put in order are those through the modules.
 use Rattle.std.specs.List.{AllZip}
-use Rattle.std.proofs.Common.{◌≡◌, ℕ, List, map, refl, ap, sym, subst, ◌∙◌}
-use Rattle.sf_model.specs.declared.recovery.Regs.{Regs}
+use Rattle.std.specs.Prelude.{IfOk}
+use Rattle.std.proofs.Common.{◌≡◌, ℕ, List, Bool, Result, map, ap, subst, ◌∙◌}
+use Rattle.sf_base.specs.declared.fault.NoMemory.{NoMemory}
 use Rattle.sf_model.specs.Memory.{Region}
 use Rattle.sf_model.specs.Walk.{ThreadState, recover_by}
 use Rattle.core_notes.specs.declared.status.Thread.{Thread}
+use Rattle.core_notes.specs.Checks.{file_threads}
+use Rattle.core_notes.specs.Memory.{file_regions}
 use Rattle.core_walk.specs.Walk.{thread_state}
+use Rattle.core_parts.specs.declared.input_memory.InputMemory.{InputMemory}
+use Rattle.core_parts.specs.Input.{is_part, memory_file}
 use Rattle.sf_lookup.specs.declared.span.Span.{Span}
 use Rattle.sf_modules.specs.Entry.{EntryView}
 use Rattle.sf_modules.specs.Found.{found_in}
@@ -18,9 +23,11 @@ use Rattle.process_walk.specs.Signals as listed
 use Rattle.process_walk.specs.Walk.{ProcessListing, process_walk}
 use Rattle.process_walk.proofs.Same.{same_walk}
 use Rattle.process_tables.specs.declared.table.MappedTable.{MappedTable}
+use Rattle.process_tables.specs.declared.walks.MappedWalks.{MappedWalks}
 use Rattle.process_tables.specs.Modules.{MappedModule, mapped_walk, recover_at, signal_at}
-use Rattle.process_tables.specs.Texts.{frame_shown, thread_text, thread_texts}
+use Rattle.process_tables.specs.Texts.{frame_shown, mapped_walks, thread_text, thread_texts}
 use Rattle.process_tables.specs.Views.{IsTableOf, rows_walk, section_view}
+use Rattle.process_tables.specs.Walked.{AreWalks}
 use Rattle.process_tables.proofs.Lines.{same_lines}
 use Rattle.process_tables.proofs.Lookups.{recover_same, signal_same, signals_in as module_signals, tables_sound}
 
@@ -40,10 +47,23 @@ walked_in process entries modules tables o are thread memory depth =
     ∙ same_walk (recover_by (found_in entries (map section_view modules)) memory) (recover_at entries modules memory) (listed.signal_at entries (map section_view modules) (module_signals modules)) (signal_at entries modules)
     (recover_same entries modules sound memory) (signal_same entries modules) thread memory depth
 
-pub texts_in : (process : Process) (entries : List EntryView) (modules : List MappedModule) (tables : List MappedTable) → IsOrdered process entries modules → AllZip IsTableOf modules tables → (memory : List Region) (depth : ℕ) (threads : List Thread)
+texts_in : (process : Process) (entries : List EntryView) (modules : List MappedModule) (tables : List MappedTable) → IsOrdered process entries modules → AllZip IsTableOf modules tables → (memory : List Region) (depth : ℕ) (threads : List Thread)
     → thread_texts (entries_in process) modules (λ thread. rows_walk process thread memory depth) threads ≡ thread_texts entries modules (λ thread. mapped_walk entries modules thread memory depth) threads
 texts_in process entries modules tables o are memory depth threads =
     ap (λ (es : List EntryView). thread_texts es modules (λ thread. rows_walk process thread memory depth) threads) o.entries_are
     ∙ same_lines (thread_text entries modules (λ thread. rows_walk process thread memory depth)) (thread_text entries modules (λ thread. mapped_walk entries modules thread memory depth))
     (λ number thread. ap (λ (l : ProcessListing). file_frames_text number thread.pid (map (frame_shown entries modules) l.frames) l.stop) (walked_in process entries modules tables o are (thread_state thread) memory depth))
     0 threads
+
+-- the walks by the memory of a core file
+pub walks_in : (process : Process) (entries : List EntryView) (modules : List MappedModule) (tables : List MappedTable) → IsOrdered process entries modules → AllZip IsTableOf modules tables
+    → (memory : InputMemory) (threads : List Thread) (core : List ℕ) (by_parts : Bool) (depth : ℕ) (result : Result MappedWalks NoMemory)
+    → memory_file memory ≡ core → is_part memory ≡ by_parts → threads ≡ file_threads core
+    → IfOk result (AreWalks (thread_texts (entries_in process) modules (λ thread. rows_walk process thread (file_regions (memory_file memory)) depth) threads) (is_part memory))
+    → IfOk result (AreWalks (mapped_walks entries modules core depth) by_parts)
+walks_in process entries modules tables o are memory threads core by_parts depth result file part listed walks =
+    let same = texts_in process entries modules tables o are (file_regions (memory_file memory)) depth threads
+    ∙ ap (λ (c : List ℕ). thread_texts entries modules (λ thread. mapped_walk entries modules thread (file_regions c) depth) threads) file
+    ∙ ap (thread_texts entries modules (λ thread. mapped_walk entries modules thread (file_regions core) depth)) listed in
+    subst (λ (p : Bool). IfOk result (AreWalks (mapped_walks entries modules core depth) p)) part
+    (subst (λ (t : List ℕ). IfOk result (AreWalks t (is_part memory))) same walks)

@@ -1,3 +1,4 @@
 pub mod Modules
 pub mod Texts
 pub mod Views
+pub mod Walked

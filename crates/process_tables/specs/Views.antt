@@ -4,7 +4,6 @@ use Rattle.sf_model.specs.Section.{Section}
 use Rattle.sf_asm.specs.Fault.{is_answered}
 use Rattle.sf_asm.specs.declared.fault.LinkFault.{LinkFault}
 use Rattle.sf_plt.specs.Answers.{IsFirstPltLinked, RecoversWithPlts}
-use Rattle.sf_modules.specs.declared.fault.ModuleFault.{ModuleFault}
 use Rattle.sf_modules.specs.Fault.{IsFaultOf}
 use Rattle.sf_modules.specs.Mapped.{IsMapped, MappedView}
 use Rattle.sf_modules.specs.Module.{ModuleView}

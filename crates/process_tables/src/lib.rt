@@ -3,7 +3,8 @@
 //!
 //! [`mapped_table`] finds where the process had a file and links it there: [`MappedTable`] has its section and its signal
 //! frames. [`sections_of`] lends the sections of all tables, and [`walks_text`] puts them in order once, walks all threads
-//! through them, and prints the frames with their files.
+//! through them, and prints the frames with their files. A core file that was read by parts may lack bytes that a walk
+//! needs: then [`MappedWalks::Unread`] has their addresses.
 //!
 //! The meaning knows no section: `mapped_walk` of `specs/Modules.antt` is the walk by what DWARF recovers in the file that
 //! the process had at each address, and over signal frames.
@@ -19,4 +20,4 @@ mod walks;
 
 pub use table::{MappedTable, TableFault, mapped_table};
 pub use views::sections_of;
-pub use walks::walks_text;
+pub use walks::{MappedWalks, walks_text};

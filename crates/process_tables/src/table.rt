@@ -1,7 +1,8 @@
 //! The table of a file that a process had mapped.
 
-ghost use Rattle.std.specs.Prelude.{◌≡◌, ◌<◌, ◌^◌, Ok, IfOk, IfErr, length};
-ghost use Rattle.sf_modules.specs.Process.{process_view};
+ghost use Rattle.std.specs.Prelude.{◌≡◌, ◌<◌, ◌^◌, ℕ, true, Ok, IfOk, IfErr, IsErrOf, length};
+ghost use Rattle.sf_modules.specs.declared.fault.ModuleFault.TheVariants.{Unread};
+ghost use Rattle.sf_modules.specs.Process.{is_process_of_parts, process_view};
 ghost use Rattle.sf_modules.specs.Reading.{mapped_check};
 ghost use Rattle.process_tables.specs.Modules.{IsMappedModule, MappedModule};
 ghost use Rattle.process_tables.specs.Views.{IsTableFault, IsTableOf};
@@ -49,8 +50,10 @@ pub fn mapped_table<'w, 'p>(
     // The file was found, and the table is that of its module.
     ensures found { IfOk result (λ _. mapped_check (process_view process.now) word.now bytes.now ≡ Ok tt) }
     ensures table { IfOk result (λ t. (m : MappedModule) × IsMappedModule (process_view process.now) item word.now bytes.now m × IsTableOf m t) }
-    // A fault is the first one.
+    // A fault is the first one, unless a part of the core file wasn't read.
     ensures fault { IfErr result (IsTableFault (process_view process.now) word.now bytes.now) }
+    // That is so only where the core file was read by parts.
+    ensures unread { (address : ℕ) → IsErrOf result (TableFault.Module (ModuleFault.Unread address)) → is_process_of_parts process.now ≡ true }
 {
     let mapped = match mapped_file(process, word.as_bytes(), bytes) {
         Ok(mapped) => mapped,

@@ -1,5 +1,4 @@
-use Rattle.std.proofs.Common.{List, ℕ, refl, sym, subst}
-use Rattle.sf_modules.specs.Fault.{IsFaultOf}
+use Rattle.std.proofs.Common.{List, ℕ, refl, subst}
 use Rattle.sf_modules.specs.Mapped.{IsMapped, mapped_view}
 use Rattle.sf_modules.specs.Process.{process_view}
 use Rattle.process_tables.proofs.Tables.{made}

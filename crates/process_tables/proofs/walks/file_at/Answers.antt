@@ -1,5 +1,5 @@
 use Rattle.std.specs.Option.{option_map}
-use Rattle.std.proofs.Common.{◌≡◌, ◌<◌, ℕ, List, None, Some, length, map, sym, ap, ◌∙◌, arith}
+use Rattle.std.proofs.Common.{◌≡◌, ◌<◌, List, None, Some, length, map, sym, ap, ◌∙◌, arith}
 use Rattle.sf_modules.specs.Module.{ModuleView}
 use Rattle.sf_modules.specs.Span.{module_number_at}
 use Rattle.sf_text.specs.FileFrames.{FileView, file_view}
