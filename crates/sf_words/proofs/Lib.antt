@@ -3,3 +3,4 @@ pub mod Loads
 pub mod Limits
 pub mod ItemLists
 pub mod WholeFiles
+pub mod LoadedAgain

@@ -1,18 +1,19 @@
 -- Files that are loaded one after the other, and the first limit that they exceed.
 use Rattle.std.specs.Prelude.{nat_lt, IfSome}
-use Rattle.std.proofs.Common.{◌≡◌, ℕ, zero, suc, ◌+◌, ◌<◌, ◌≤◌, ◌^◌, Bool, true, false, cond, List, [], ◌∷◌, ◌++◌, map, length, take, drop, get_or, Option, Some, None, refl, ap, sym, subst, append_assoc, ◌∙◌, arith}
+use Rattle.std.proofs.Common.{◌≡◌, ℕ, zero, suc, ◌+◌, ◌<◌, ◌≤◌, ◌^◌, Bool, true, false, cond, All, List, [], ◌∷◌, ◌++◌, map, length, take, drop, get_or, Option, Some, None, refl, ap, sym, subst, append_assoc, ◌∙◌, arith}
 use Rattle.std.proofs.lemmas.Bool.{lt-ltb, le-ltb}
 use Rattle.std.proofs.lemmas.Bool.Decides.{nat_tests}
+use Rattle.std.proofs.lemmas.List.Elements.{All-push}
 use Rattle.std.proofs.lemmas.List.{length-map, length-append, take_more, drop_more, append-nil}
 use lib.Seq.{take-length}
 use Rattle.sf_base.specs.Contents.{contents_of}
 use Rattle.sf_base.specs.declared.loading.LoadFault.{LoadFault}
 use Rattle.sf_base.specs.declared.loading.LoadFault.TheVariants as load
-use Rattle.sf_parts.specs.Read.{file_of}
 use Rattle.sf_words.specs.declared.item.Item.{Item}
 use Rattle.std.specs.List.{zip}
 use Rattle.sf_words.specs.declared.loaded.Loaded.{Loaded}
-use Rattle.sf_words.specs.Items.{ItemWords, counted_bytes, item_of, limit_of, name_of, names_of}
+use Rattle.sf_words.specs.ItemRead.{is_read_whole, read_bytes}
+use Rattle.sf_words.specs.Items.{ItemWords, Input, Section, Core, Mapped, counted_bytes, item_of, limit_of, name_of, names_of}
 use Rattle.std.proofs.Math.ListN.{get_or-map}
 use Rattle.sf_words.specs.declared.refusal.Limit.{Limit}
 use Rattle.sf_words.specs.declared.refusal.Limit.TheVariants.{File, Total}
@@ -27,7 +28,7 @@ unfolding bytes_limit
 one_step item total kind bytes rest long much p q = rw (p, q) refl
 
 -- a file that is longer than the limit of its kind
-too_long : (item total : ℕ) (kind : ItemWords) (bytes : List ℕ) (rest : List (ItemWords × List ℕ)) → limit_of kind < length bytes → bytes_limit item total ((kind, bytes) ∷ rest) ≡ Some (File item)
+pub too_long : (item total : ℕ) (kind : ItemWords) (bytes : List ℕ) (rest : List (ItemWords × List ℕ)) → limit_of kind < length bytes → bytes_limit item total ((kind, bytes) ∷ rest) ≡ Some (File item)
 too_long item total kind bytes rest long =
     one_step item total kind bytes rest true (nat_lt (2 ^ 30) (total + counted_bytes kind (length bytes))) (lt-ltb (limit_of kind) (length bytes) long) refl
 
@@ -63,6 +64,13 @@ within_both item total kind bytes rest h =
 no_limit : (item total : ℕ) → bytes_limit item total [] ≡ None
 unfolding bytes_limit
 no_limit item total = refl
+
+-- of one file within the limit of its kind at most 2^30 bytes count
+pub counted_few : (kind : ItemWords) (bytes : List ℕ) (n counted : ℕ) → length bytes ≤ limit_of kind → n ≡ length bytes → counted ≡ counted_bytes kind n → counted ≤ 2 ^ 30
+counted_few (Input input) bytes n counted short length_is counted_is = omega arith
+counted_few (Section section) bytes n counted short length_is counted_is = omega arith
+counted_few (Core name) bytes n counted short length_is counted_is = omega arith
+counted_few (Mapped name) bytes n counted short length_is counted_is = omega arith
 
 -- ---- while files are loaded
 -- these are the bytes of the first items, and the limit of all is that of the files from here on, whatever they hold
@@ -171,7 +179,7 @@ exceeded (Some known) items k d loaded total bytes limit h lt is over =
     }
 
 -- there are lists of more elements
-longer : (n : ℕ) → (xs : List ℕ) × (n < length xs)
+pub longer : (n : ℕ) → (xs : List ℕ) × (n < length xs)
 longer zero = (0 ∷ [], omega arith)
 longer (suc n) = let l = longer n in (0 ∷ l.0, omega (arith, l.1))
 
@@ -199,19 +207,25 @@ named items k d lt name e = (k, omega (arith, length-map items name_of, lt), by_
     by_place (i ∷ is) zero d lt = refl
     by_place (i ∷ is) (suc k) d lt = by_place is k d (omega arith)
 
-load_refuses : (contents : Contents) (items : List ItemWords) (k item : ℕ) (d : ItemWords) (loaded : List (List ℕ)) (total : ℕ) (fault : LoadFault) (refused : Refusal)
-    → Begun contents items k loaded total → k < length items → item ≡ k → IsLoadRefusal fault item (name_of (get_or items k d)) refused
-    → ((limit : ℕ) → fault ≡ load.TooLong limit → IfSome contents (λ known. limit_of (get_or items k d) < length (contents_of known (name_of (get_or items k d))))) → IsLoadingRefusal contents items refused
-load_refuses contents items k item d loaded total load.Read refused h lt is refuses long = read refused refuses
+-- a fault of loading makes a refusal, if a file that is too long exceeds the limit of its kind
+pub refuses_by : (contents : Contents) (items : List ItemWords) (k item : ℕ) (d : ItemWords) (fault : LoadFault) (refused : Refusal) → k < length items → item ≡ k
+    → IsLoadRefusal fault item (name_of (get_or items k d)) refused → ((limit : ℕ) → fault ≡ load.TooLong limit → Exceeds contents items (File k)) → IsLoadingRefusal contents items refused
+refuses_by contents items k item d load.Read refused lt is refuses long = read refused refuses
   where
     read : (refused : Refusal) → IsReadOf (name_of (get_or items k d)) refused → IsLoadingRefusal contents items refused
     read (refusal.Read name) e = named items k d lt name.now e
     read refusal.Memory e = tt
     read (refusal.Limit limit) e = absurd e
     read (refusal.Input notice) e = absurd e
-load_refuses contents items k item d loaded total (load.TooLong limit) refused h lt is refuses long =
-    subst (IsLoadingRefusal contents items) (ap (λ (n : ℕ). refusal.Limit (File n)) (sym is) ∙ sym refuses) (long_file contents items k d loaded total h lt (long limit refl))
-load_refuses contents items k item d loaded total load.NoMemory refused h lt is refuses long = subst (IsLoadingRefusal contents items) (sym refuses) tt
+refuses_by contents items k item d (load.TooLong limit) refused lt is refuses long =
+    subst (IsLoadingRefusal contents items) (ap (λ (n : ℕ). refusal.Limit (File n)) (sym is) ∙ sym refuses) (long limit refl)
+refuses_by contents items k item d load.NoMemory refused lt is refuses long = subst (IsLoadingRefusal contents items) (sym refuses) tt
+
+load_refuses : (contents : Contents) (items : List ItemWords) (k item : ℕ) (d : ItemWords) (loaded : List (List ℕ)) (total : ℕ) (fault : LoadFault) (refused : Refusal)
+    → Begun contents items k loaded total → k < length items → item ≡ k → IsLoadRefusal fault item (name_of (get_or items k d)) refused
+    → ((limit : ℕ) → fault ≡ load.TooLong limit → IfSome contents (λ known. limit_of (get_or items k d) < length (contents_of known (name_of (get_or items k d))))) → IsLoadingRefusal contents items refused
+load_refuses contents items k item d loaded total fault refused h lt is refuses long =
+    refuses_by contents items k item d fault refused lt is refuses (λ limit e. long_file contents items k d loaded total h lt (long limit e))
 
 -- the refusal of an item that could not be read names the file that failed
 pub names_failed : (failed : Option (List ℕ)) (fault : LoadFault) (item : ℕ) (name : List ℕ) (refused : Refusal) → IsLoadRefusal fault item name refused → (fault ≡ load.Read → IfSome failed (λ known. known ≡ name))
@@ -224,8 +238,14 @@ names_failed failed (load.TooLong limit) item name refused is named = subst (Nam
 names_failed failed load.NoMemory item name refused is named = subst (NamesFailed failed) (sym is) tt
 
 -- one file more
-pub loaded_push : (before after : List Loaded) (file : Loaded) → after ≡ before ++ file ∷ [] → loaded_bytes after ≡ loaded_bytes before ++ file_of file.read ∷ []
-loaded_push before after file h = ap loaded_bytes h ∙ map_push (λ (l : Loaded). file_of l.read) before file
+pub loaded_push : (before after : List Loaded) (file : Loaded) → after ≡ before ++ file ∷ [] → loaded_bytes after ≡ loaded_bytes before ++ read_bytes file.read ∷ []
+loaded_push before after file h = ap loaded_bytes h ∙ map_push (λ (l : Loaded). read_bytes l.read) before file
+
+pub whole_push : (before after : List Loaded) (file : Loaded) → after ≡ before ++ file ∷ [] → All (λ (l : Loaded). is_read_whole l.read ≡ true) before → is_read_whole file.read ≡ true
+    → All (λ (l : Loaded). is_read_whole l.read ≡ true) after
+whole_push before after file h all whole =
+    let read_whole : Loaded → Type 0 = λ l. is_read_whole l.read ≡ true in
+    subst (All read_whole) (sym h) (All-push read_whole before file all whole)
 
 items_push : (before after : List Loaded) (file : Loaded) → after ≡ before ++ file ∷ [] → loaded_items after ≡ loaded_items before ++ item_of file.item ∷ []
 items_push before after file h = ap loaded_items h ∙ map_push (λ (l : Loaded). item_of l.item) before file

@@ -1,20 +1,30 @@
--- Files that were loaded and are not linked as ELF files, by their places.
-use Rattle.std.proofs.Common.{◌≡◌, List, [], ◌∷◌, get_or, false, ap, ◌∙◌}
+-- Files that were loaded, and what is known of their items, by their places.
+use Rattle.std.proofs.Common.{◌≡◌, Bool, List, [], ◌∷◌, get_or, false, ap, ◌∙◌}
 use Rattle.sf_words.specs.declared.loaded.Loaded.{Loaded}
-use Rattle.sf_words.specs.Items.{ItemWords, is_elf_input, item_of}
+use Rattle.sf_words.specs.Items.{ItemWords, item_of, may_be_by_parts}
 use Rattle.sf_words.specs.Loading.{loaded_items}
 
 -- the item of a file is that at its place
-whole : (file at : Loaded) (item : ItemWords) → file ≡ at → item_of at.item ≡ item → is_elf_input item ≡ false → is_elf_input (item_of file.item) ≡ false
-whole file at item is named h = ap (λ (l : Loaded). is_elf_input (item_of l.item)) is ∙ ap is_elf_input named ∙ h
+tested : (test : ItemWords → Bool) (answer : Bool) (file at : Loaded) (item : ItemWords) → file ≡ at → item_of at.item ≡ item → test item ≡ answer → test (item_of file.item) ≡ answer
+tested test answer file at item is named h = ap (λ (l : Loaded). test (item_of l.item)) is ∙ ap test named ∙ h
 
-pub first_whole : (loaded : List Loaded) (first : ItemWords) (later : List ItemWords) (file d : Loaded) → loaded_items loaded ≡ first ∷ later → file ≡ get_or loaded 0 d → is_elf_input first ≡ false
-    → is_elf_input (item_of file.item) ≡ false
-first_whole [] first later file d are is h = let none : ⊥ = cc in absurd none
-first_whole (l ∷ ls) first later file d are is h = let named : item_of l.item ≡ first = cc in whole file l first is named h
+-- a test of the first item, or of the second, as of the item of the file that was loaded at its place
+pub first_tested : (test : ItemWords → Bool) (answer : Bool) (loaded : List Loaded) (first : ItemWords) (later : List ItemWords) (file d : Loaded) → loaded_items loaded ≡ first ∷ later → file ≡ get_or loaded 0 d
+    → test first ≡ answer → test (item_of file.item) ≡ answer
+first_tested test answer [] first later file d are is h = let none : ⊥ = cc in absurd none
+first_tested test answer (l ∷ ls) first later file d are is h = let named : item_of l.item ≡ first = cc in tested test answer file l first is named h
 
-pub second_whole : (loaded : List Loaded) (first second : ItemWords) (later : List ItemWords) (file d : Loaded) → loaded_items loaded ≡ first ∷ second ∷ later → file ≡ get_or loaded 1 d → is_elf_input second ≡ false
-    → is_elf_input (item_of file.item) ≡ false
-second_whole [] first second later file d are is h = let none : ⊥ = cc in absurd none
-second_whole (l ∷ []) first second later file d are is h = let none : ⊥ = cc in absurd none
-second_whole (l ∷ m ∷ ls) first second later file d are is h = let named : item_of m.item ≡ second = cc in whole file m second is named h
+pub second_tested : (test : ItemWords → Bool) (answer : Bool) (loaded : List Loaded) (first second : ItemWords) (later : List ItemWords) (file d : Loaded) → loaded_items loaded ≡ first ∷ second ∷ later
+    → file ≡ get_or loaded 1 d → test second ≡ answer → test (item_of file.item) ≡ answer
+second_tested test answer [] first second later file d are is h = let none : ⊥ = cc in absurd none
+second_tested test answer (l ∷ []) first second later file d are is h = let none : ⊥ = cc in absurd none
+second_tested test answer (l ∷ m ∷ ls) first second later file d are is h = let named : item_of m.item ≡ second = cc in tested test answer file m second is named h
+
+-- files that are read whole
+pub first_whole : (loaded : List Loaded) (first : ItemWords) (later : List ItemWords) (file d : Loaded) → loaded_items loaded ≡ first ∷ later → file ≡ get_or loaded 0 d → may_be_by_parts first ≡ false
+    → may_be_by_parts (item_of file.item) ≡ false
+first_whole = first_tested may_be_by_parts false
+
+pub second_whole : (loaded : List Loaded) (first second : ItemWords) (later : List ItemWords) (file d : Loaded) → loaded_items loaded ≡ first ∷ second ∷ later → file ≡ get_or loaded 1 d → may_be_by_parts second ≡ false
+    → may_be_by_parts (item_of file.item) ≡ false
+second_whole = second_tested may_be_by_parts false

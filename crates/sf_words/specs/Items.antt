@@ -1,11 +1,12 @@
 -- The files that a command reads, each of a kind, the limits of each kind, and which may be read by parts.
-use Rattle.std.specs.Prelude.{◌^◌, ℕ, Bool, true, false, List, map}
+use Rattle.std.specs.Prelude.{◌^◌, ℕ, Bool, true, false, ◌||◌, not, List, map}
 use Rattle.sf_model.specs.declared.form.Form.{Form}
 use Rattle.sf_model.specs.declared.form.Form.TheVariants.{Elf, Bare}
-use Rattle.sf_parts.specs.declared.file_read.FileRead.{FileRead}
 use Rattle.sf_parts.specs.declared.file_read.FileRead.TheVariants.{Linked, Whole}
 use Rattle.sf_words.specs.declared.item.Item.{Item}
 use Rattle.sf_words.specs.declared.item.Item.TheVariants as item
+use Rattle.sf_words.specs.declared.item_read.ItemRead.{ItemRead}
+use Rattle.sf_words.specs.declared.item_read.ItemRead.TheVariants as read
 use Rattle.sf_words.specs.Words.{InputWords, SectionWords, input_of, words_of_section}
 
 -- a file that a command reads: an input, a section, the core file of this name, or the ELF file of this name that was mapped
@@ -55,10 +56,23 @@ is_elf_input (Section section) = false
 is_elf_input (Core name) = false
 is_elf_input (Mapped name) = false
 
--- whether a file of this kind may be read so: by its parts only if it is linked as an ELF file
-abbrev pub suits : ItemWords → FileRead → Bool
-suits item (Linked elf) = is_elf_input item
-suits item (Whole bytes) = true
+-- whether a file is a core file
+abbrev pub is_core : ItemWords → Bool
+is_core (Input input) = false
+is_core (Section section) = false
+is_core (Core name) = true
+is_core (Mapped name) = false
+
+-- whether a file of this kind may be read by its parts: an ELF file that is linked, or a core file
+abbrev pub may_be_by_parts : ItemWords → Bool
+may_be_by_parts item = is_elf_input item || is_core item
+
+-- whether a file of this kind may be read so: by the parts of an ELF file only if it is linked as one, whole as any other file if it is
+-- no core file, and as a core file only if it is one
+abbrev pub suits : ItemWords → ItemRead → Bool
+suits item (read.File (Linked elf)) = is_elf_input item
+suits item (read.File (Whole bytes)) = not (is_core item)
+suits item (read.Core core) = is_core item
 
 -- ---- lists of files
 -- the names of these files

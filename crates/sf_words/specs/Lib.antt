@@ -3,6 +3,7 @@ pub mod Naming
 pub mod AtSigns
 pub mod OneReading
 pub mod Named
+pub mod ItemRead
 pub mod Items
 pub mod Files
 pub mod Loading

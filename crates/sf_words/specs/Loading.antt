@@ -1,12 +1,12 @@
 -- Loading the files that a command reads in order, and the limits of their bytes: of one file, by its kind, and 2^30 bytes of all.
-use Rattle.std.specs.Prelude.{◌≡◌, ◌+◌, ◌^◌, ℕ, nat_lt, List, [], ◌∷◌, map, length, Contains, Option, Some, None, IfSome, if◌then◌else◌}
+use Rattle.std.specs.Prelude.{◌≡◌, ◌+◌, ◌^◌, ℕ, true, nat_lt, All, List, [], ◌∷◌, map, length, Contains, Option, Some, None, IfSome, if◌then◌else◌}
 use Rattle.std.specs.List.{zip}
 use Rattle.sf_base.specs.Contents.{contents_of}
 use Rattle.sf_base.specs.declared.loading.LoadFault.{LoadFault}
 use Rattle.sf_base.specs.declared.loading.LoadFault.TheVariants as load
-use Rattle.sf_parts.specs.Read.{file_of}
 use Rattle.sf_words.specs.declared.loaded.Loaded.{Loaded}
 use Rattle.sf_words.specs.Files.{FilesWords, counted_items, items_of}
+use Rattle.sf_words.specs.ItemRead.{is_read_whole, read_bytes}
 use Rattle.sf_words.specs.Items.{ItemWords, counted_bytes, item_of, limit_of, name_of, names_of}
 use Rattle.sf_words.specs.declared.refusal.Limit.{Limit}
 use Rattle.sf_words.specs.declared.refusal.Limit.TheVariants.{File, Inputs, Total}
@@ -59,7 +59,11 @@ abbrev pub loaded_items : List Loaded → List ItemWords
 loaded_items loaded = map (λ (file : Loaded). item_of file.item) loaded
 
 abbrev pub loaded_bytes : List Loaded → List (List ℕ)
-loaded_bytes loaded = map (λ (file : Loaded). file_of file.read) loaded
+loaded_bytes loaded = map (λ (file : Loaded). read_bytes file.read) loaded
+
+-- of each core file all was read, and no parts alone
+abbrev pub AreReadWhole : List Loaded → Type 0
+AreReadWhole loaded = All (λ (file : Loaded). is_read_whole file.read ≡ true) loaded
 
 -- ---- refusals
 -- Inside the crate: an item of this name could not be read

@@ -56,6 +56,16 @@ impl<'a> Item<'a> {
         }
     }
 
+    /// Returns whether the file is a core file.
+    pub fn is_core(&self) -> bool
+        ensures { result ≡ spec.is_core (item_of self.now) }
+    {
+        match self {
+            Item::Core(_) => true,
+            Item::Input(_) | Item::Section(_) | Item::Mapped(_) => false,
+        }
+    }
+
     /// Returns how many bytes of such a file of `len` bytes count for the limit of all files of a run.
     pub fn counted(&self, len: u64) -> u64
         ensures { result ≡ counted_bytes (item_of self.now) len }
