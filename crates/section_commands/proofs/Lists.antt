@@ -2,7 +2,7 @@
 use Rattle.std.specs.List.{zip}
 use Rattle.std.proofs.Common.{Bor, ◌≡◌, ℕ, zero, suc, ◌+◌, ◌-◌, ◌<◌, ◌≤◌, List, [], ◌∷◌, map, length, take, drop, get_or, refl, ap, sym, ◌∙◌, arith}
 use Rattle.std.proofs.lemmas.List.{length-map, take_all}
-use Rattle.sf_parts.specs.Read.{file_of}
+use Rattle.sf_words.specs.ItemRead.{read_bytes}
 use Rattle.sf_words.specs.declared.loaded.Loaded.{Loaded}
 use Rattle.sf_words.specs.declared.item.Item.{Item}
 use Rattle.sf_words.specs.declared.item.Item.TheVariants as item
@@ -19,7 +19,7 @@ left words loaded k = zip (drop k words) (loaded_bytes (drop k loaded))
 pub record Turn {A : Type 0} (view : A → ItemWords) (words : List A) (loaded : List Loaded) (k : ℕ) (d : Loaded) : Type 0 where
   pub word : A
   pub is : item_of (get_or loaded k d).item ≡ view word
-  pub are : left words loaded k ≡ (word, file_of (get_or loaded k d).read) ∷ left words loaded (k + 1)
+  pub are : left words loaded k ≡ (word, read_bytes (get_or loaded k d).read) ∷ left words loaded (k + 1)
 
 pub turn : {A : Type 0} (view : A → ItemWords) (words : List A) (loaded : List Loaded) (k : ℕ) (d : Loaded) → loaded_items loaded ≡ map view words → k < length loaded → Turn view words loaded k d
 turn view [] [] k d h lt = let none : ⊥ = omega (arith, lt) in absurd none
@@ -33,7 +33,7 @@ turn {A} view (w ∷ ws) (l ∷ ls) (suc k) d h lt =
     record {
       word = t.word;
       is = t.is;
-      are = t.are ∙ ap (λ (m : ℕ). (t.word, file_of (get_or ls k d).read) ∷ left (w ∷ ws) (l ∷ ls) m) (sym on);
+      are = t.are ∙ ap (λ (m : ℕ). (t.word, read_bytes (get_or ls k d).read) ∷ left (w ∷ ws) (l ∷ ls) m) (sym on);
     }
 
 -- none is left
@@ -51,7 +51,7 @@ none_left {A} words loaded k h = ap (λ (ls : List Loaded). zip (drop k words) (
     none_named (w ∷ ws) = refl
 
 -- ---- the bytes of files at their places
-pub bytes_at : (loaded : List Loaded) (k : ℕ) (d : Loaded) → k < length loaded → get_or (loaded_bytes loaded) k [] ≡ file_of (get_or loaded k d).read
+pub bytes_at : (loaded : List Loaded) (k : ℕ) (d : Loaded) → k < length loaded → get_or (loaded_bytes loaded) k [] ≡ read_bytes (get_or loaded k d).read
 bytes_at [] k d lt = let none : ⊥ = omega (arith, lt) in absurd none
 bytes_at (l ∷ ls) zero d lt = refl
 bytes_at (l ∷ ls) (suc k) d lt = bytes_at ls k d (omega (arith, lt))
@@ -93,17 +93,17 @@ pub a_mapped_file : (names : List (List ℕ)) (loaded : List Loaded) (k : ℕ) (
 a_mapped_file names loaded k d h lt = let t = turn Mapped names loaded k d h lt in mapped_is (get_or loaded k d).item t.word t.is
 
 pub section_turn : (sections : List SectionWords) (loaded : List Loaded) (k : ℕ) (d : Loaded) (section : SectionFile) → loaded_items loaded ≡ map Section sections → k < length loaded → (get_or loaded k d).item ≡ item.Section section
-    → left sections loaded k ≡ (words_of_section section, file_of (get_or loaded k d).read) ∷ left sections loaded (k + 1)
+    → left sections loaded k ≡ (words_of_section section, read_bytes (get_or loaded k d).read) ∷ left sections loaded (k + 1)
 section_turn sections loaded k d section h lt is =
     let t = turn Section sections loaded k d h lt in
     let same : Section (words_of_section section) ≡ Section t.word = sym (ap item_of is) ∙ t.is in
     let word : t.word ≡ words_of_section section = cc in
-    t.are ∙ ap (λ (w : SectionWords). (w, file_of (get_or loaded k d).read) ∷ left sections loaded (k + 1)) word
+    t.are ∙ ap (λ (w : SectionWords). (w, read_bytes (get_or loaded k d).read) ∷ left sections loaded (k + 1)) word
 
 pub mapped_turn : (names : List (List ℕ)) (loaded : List Loaded) (k : ℕ) (d : Loaded) (name : Bor (List ℕ)) → loaded_items loaded ≡ map Mapped names → k < length loaded → (get_or loaded k d).item ≡ item.Mapped name
-    → left names loaded k ≡ (name.now, file_of (get_or loaded k d).read) ∷ left names loaded (k + 1)
+    → left names loaded k ≡ (name.now, read_bytes (get_or loaded k d).read) ∷ left names loaded (k + 1)
 mapped_turn names loaded k d name h lt is =
     let t = turn Mapped names loaded k d h lt in
     let same : Mapped name.now ≡ Mapped t.word = sym (ap item_of is) ∙ t.is in
     let word : t.word ≡ name.now = cc in
-    t.are ∙ ap (λ (w : List ℕ). (w, file_of (get_or loaded k d).read) ∷ left names loaded (k + 1)) word
+    t.are ∙ ap (λ (w : List ℕ). (w, read_bytes (get_or loaded k d).read) ∷ left names loaded (k + 1)) word

@@ -5,21 +5,19 @@ use Rattle.core_notes.specs.declared.fault.CoreFault.{CoreFault}
 use Rattle.core_notes.specs.Checks.{core_check}
 use Rattle.elf_read.specs.Checking.{each_below}
 use Rattle.sf_modules.specs.declared.fault.ModuleFault.{ModuleFault}
-use Rattle.sf_modules.specs.declared.fault.ModuleFault.TheVariants.{NoFileNote, FileNote, Elf, NoSection, Segments, NotMapped, Mapping, Ambiguous, Build, Section, NoMemory}
+use Rattle.sf_modules.specs.declared.fault.ModuleFault.TheVariants.{NoFileNote, FileNote, Elf, NoSection, Segments, NotMapped, Mapping, Ambiguous, Build, Section, Unread, NoMemory}
 use Rattle.sf_modules.specs.Entry.{EntryView}
-use Rattle.sf_modules.specs.Fault.{Check, IsFaultOf}
+use Rattle.sf_modules.specs.Fault.{Check, IsFaultOf, module_refusal}
 use Rattle.sf_modules.specs.Note.{HasEntries, numbered_entries, file_entries_check, file_entry_check, file_entry_count, file_header_check, file_note_check, has_file_names, names_part, page_size}
 use Rattle.sf_modules.specs.Process.{ProcessView, process_of}
 use Rattle.sf_modules.proofs.NamesRead.{names_exist, names_unique}
 use Rattle.sf_modules.proofs.Placing.{both_fine, passes}
-use Rattle.sf_words.specs.declared.refusal.Refusal.{Refusal}
-use Rattle.sf_words.specs.declared.refusal.Refusal.TheVariants as refusal
-use Rattle.section_commands.specs.declared.made.Made.{Made}
+use Rattle.section_commands.specs.declared.made.Unmade.{Unmade}
 use Rattle.section_commands.specs.Coming.{Coming}
-use Rattle.section_commands.specs.Making.{ComesAs, ComesTo}
-use Rattle.section_commands.specs.Process.{EntriesCome, NoteComes, ProcessComes, coming_of_module, file_note}
+use Rattle.section_commands.specs.Making.{IsUnfinished, UnmadeAs}
+use Rattle.section_commands.specs.Process.{EntriesCome, IsFinalFault, NoteComes, ProcessComes, coming_of_module, file_note}
 use Rattle.section_commands.specs.Walks.{coming_of_core}
-use Rattle.section_commands.proofs.Making.{comes_as, memory_comes}
+use Rattle.section_commands.proofs.Making.{unfinished_as, unmade_as}
 
 -- ---- one thing
 one_note : (note : Option Cursor) (p q : ℕ) (es fs : List EntryView) → HasEntries note p es → HasEntries note q fs → (p ≡ q) × (es ≡ fs)
@@ -69,8 +67,9 @@ some_process core Come some (Err fault) = (coming_of_core 0 fault, refl)
 some_process core Come some (Ok u) = some_from_note core Come some (file_entries_check (file_note core)) refl
 
 -- ---- what is made
-pub fault_found : (check : Check) (fault : ModuleFault) → IsFaultOf check fault → (fault ≡ NoMemory) ⊎ (check ≡ Err fault)
+pub fault_found : (check : Check) (fault : ModuleFault) → IsFaultOf check fault → (module_refusal fault ≡ None) ⊎ (check ≡ Err fault)
 fault_found check NoMemory h = inl refl
+fault_found check (Unread address) h = inl refl
 fault_found check NoFileNote h = inr h
 fault_found check (FileNote place) h = inr h
 fault_found check (Elf fault) h = inr h
@@ -82,9 +81,19 @@ fault_found check Ambiguous h = inr h
 fault_found check Build h = inr h
 fault_found check (Section fault) h = inr h
 
-pub comes_to : (P Q : Coming → Type 0) → ((c : Coming) → P c → Q c) → (made : Result Made Refusal) → ComesTo P made → ComesTo Q made
-comes_to P Q on (Ok made) h = on _ h
-comes_to P Q on (Err refused) h = comes_as P Q on refused h
+pub is_final_fault : (fault : ModuleFault) → ((address : ℕ) → fault ≡ Unread address → ⊥) → IsFinalFault fault
+is_final_fault NoMemory h = tt
+is_final_fault (Unread address) h = h address refl
+is_final_fault NoFileNote h = tt
+is_final_fault (FileNote place) h = tt
+is_final_fault (Elf fault) h = tt
+is_final_fault NoSection h = tt
+is_final_fault (Segments place) h = tt
+is_final_fault NotMapped h = tt
+is_final_fault Mapping h = tt
+is_final_fault Ambiguous h = tt
+is_final_fault Build h = tt
+is_final_fault (Section fault) h = tt
 
 -- a core file and its note have no fault
 pub record AreRead (core : List ℕ) (page : ℕ) (entries : List EntryView) : Type 0 where
@@ -98,12 +107,12 @@ from_process core page entries Come coming read h =
     (subst (λ (check : Check). NoteComes core Come check coming) (sym read.note_fine) record { page = page; entries = entries; are = read.are; comes = h })
 
 -- the note is refused, or memory ran out
-pub note_unread : (core : List ℕ) (Come : ProcessView → Coming → Type 0) (fault : ModuleFault) (refused : Refusal) → core_check core ≡ Ok tt → IsFaultOf (file_entries_check (file_note core)) fault
-    → (fault ≡ NoMemory → refused ≡ refusal.Memory) → ComesAs (λ (c : Coming). c ≡ coming_of_module 0 fault) refused → ComesAs (ProcessComes core Come (core_check core)) refused
-note_unread core Come fault refused fine found memory tells = by_cause (fault_found (file_entries_check (file_note core)) fault found)
+pub note_unread : (core : List ℕ) (Come : ProcessView → Coming → Type 0) (fault : ModuleFault) (unmade : Unmade) → core_check core ≡ Ok tt → IsFaultOf (file_entries_check (file_note core)) fault
+    → (module_refusal fault ≡ None → IsUnfinished true unmade) → UnmadeAs (λ (c : Coming). c ≡ coming_of_module 0 fault) unmade → UnmadeAs (ProcessComes core Come (core_check core)) unmade
+note_unread core Come fault unmade fine found unfinished tells = by_cause (fault_found (file_entries_check (file_note core)) fault found)
   where
-    by_cause : (fault ≡ NoMemory) ⊎ (file_entries_check (file_note core) ≡ Err fault) → ComesAs (ProcessComes core Come (core_check core)) refused
-    by_cause (inl none) = memory_comes (ProcessComes core Come (core_check core)) refused (memory none)
+    by_cause : (module_refusal fault ≡ None) ⊎ (file_entries_check (file_note core) ≡ Err fault) → UnmadeAs (ProcessComes core Come (core_check core)) unmade
+    by_cause (inl none) = unfinished_as (ProcessComes core Come (core_check core)) true unmade (unfinished none)
     by_cause (inr first) =
-        comes_as (λ (c : Coming). c ≡ coming_of_module 0 fault) (ProcessComes core Come (core_check core))
-        (λ c e. subst (λ (check : Result (Unit {0}) CoreFault). ProcessComes core Come check c) (sym fine) (subst (λ (check : Check). NoteComes core Come check c) (sym first) e)) refused tells
+        unmade_as (λ (c : Coming). c ≡ coming_of_module 0 fault) (ProcessComes core Come (core_check core))
+        (λ c e. subst (λ (check : Result (Unit {0}) CoreFault). ProcessComes core Come check c) (sym fine) (subst (λ (check : Check). NoteComes core Come check c) (sym first) e)) unmade tells

@@ -1,32 +1,33 @@
 -- Mapped files with their bytes, one after the other, and what their modules come to.
 use Rattle.std.specs.List.{All, AllZip, position, position_or_len, zip}
 use Rattle.std.specs.Prelude.{nat_lt}
-use Rattle.std.proofs.Common.{◌≡◌, ℕ, ◌+◌, ◌<◌, ◌^◌, Bool, not, cond, List, [], ◌∷◌, map, length, drop, get_or, Option, Some, None, Result, Ok, Err, refl, ap, sym, subst, ◌∙◌, ◌⊎◌, inl, inr, arith}
+use Rattle.std.proofs.Common.{◌≡◌, ℕ, ◌+◌, ◌<◌, ◌^◌, Bool, true, not, cond, List, [], ◌∷◌, map, length, drop, get_or, Option, Some, None, Result, Ok, Err, refl, ap, sym, subst, ◌∙◌, ◌⊎◌, inl, inr, arith}
 use Rattle.std.proofs.lemmas.List.{length-map}
 use Rattle.std.proofs.lemmas.List.Elements.{All-nil, All-cons}
 use Rattle.elf_read.specs.Header.{arch_of}
 use Rattle.core_notes.specs.Checks.{core_check}
 use Rattle.sf_modules.specs.declared.fault.ModuleFault.{ModuleFault}
 use Rattle.sf_modules.specs.Entry.{EntryView}
+use Rattle.sf_modules.specs.Fault.{IsFaultOf, module_refusal}
 use Rattle.sf_modules.specs.Module.{ModuleView}
 use Rattle.sf_modules.specs.Note.{HasEntries, file_entries_check}
 use Rattle.sf_modules.specs.Process.{ProcessView, process_of}
 use Rattle.sf_modules.specs.Union.{tables_of}
-use Rattle.sf_words.specs.declared.refusal.Refusal.{Refusal}
-use Rattle.sf_parts.specs.Read.{file_of}
+use Rattle.sf_words.specs.ItemRead.{read_bytes}
 use Rattle.sf_words.specs.declared.loaded.Loaded.{Loaded}
 use Rattle.sf_words.specs.Loading.{bytes_limit, items_limit, loaded_bytes, loaded_items}
 use Rattle.sf_words.proofs.Loads.{goes_on, within_both}
 use Rattle.sf_words.specs.Items.{Core, Mapped}
 use Rattle.section_commands.specs.declared.made.Made.{Made}
+use Rattle.section_commands.specs.declared.made.Unmade.{Unmade}
 use Rattle.section_commands.specs.Coming.{Coming}
 use Rattle.section_commands.specs.FirstFault.{first_failing}
-use Rattle.section_commands.specs.Making.{ComesAs, ComesTo}
+use Rattle.section_commands.specs.Making.{IsUnfinished, MadeAs, UnmadeAs}
 use Rattle.section_commands.specs.Process.{File, ProcessComes, coming_of_module, file_note}
 use Rattle.section_commands.specs.Procwalk.{FilesCome, IsModuleOf, ProcwalkComesIn, coming_of_modules, module_file_check, files_fault, mixed_item, modules_walks, sums_limit}
 use Rattle.section_commands.proofs.Lists.{as_many}
-use Rattle.section_commands.proofs.Making.{comes_as}
-use Rattle.section_commands.proofs.Processes.{comes_to, from_process}
+use Rattle.section_commands.proofs.Making.{made_as, unfinished_as, unmade_as}
+use Rattle.section_commands.proofs.Processes.{fault_found, from_process}
 use Rattle.section_commands.proofs.Reading.{Reading, fault_step}
 
 -- ---- the first that passes
@@ -43,14 +44,18 @@ position_map {X} {Y} p f xs =
 abbrev pub ReadingFiles : ProcessView → (all : List File) → (item : ℕ) → (left : List File) → List ModuleView → Type 0
 ReadingFiles p all item left modules = Reading (module_file_check p) (IsModuleOf p) 1 all item left modules
 
--- a file of which no module is read is the first
-pub unread : (p : ProcessView) (all : List File) (item number : ℕ) (left : List File) (modules : List ModuleView) (file : File) (later : List File) (fault : ModuleFault) (refused : Refusal)
-    → ReadingFiles p all item left modules → left ≡ file ∷ later → module_file_check p file ≡ Err fault → number ≡ item → ComesAs (λ (c : Coming). c ≡ coming_of_module number fault) refused
-    → (depth : ℕ) → ComesAs (FilesCome p depth all (files_fault p all)) refused
-unread p all item number left modules file later fault refused h are check is tells depth =
-    let first : files_fault p all ≡ Some (item, fault) = h.fault ∙ ap (first_failing (module_file_check p) item) are ∙ fault_step (module_file_check p) item file later (Err fault) check in
-    comes_as (λ (c : Coming). c ≡ coming_of_module number fault) (FilesCome p depth all (files_fault p all))
-    (λ c e. subst (λ (f : Option (ℕ × ModuleFault)). FilesCome p depth all f c) (sym first) (e ∙ ap (λ (n : ℕ). coming_of_module n fault) is)) refused tells
+-- a file of which no module is read is the first, or memory ran out, or more of the core file has to be read
+pub unread : (p : ProcessView) (all : List File) (item number : ℕ) (left : List File) (modules : List ModuleView) (file : File) (later : List File) (fault : ModuleFault) (unmade : Unmade)
+    → ReadingFiles p all item left modules → left ≡ file ∷ later → IsFaultOf (module_file_check p file) fault → number ≡ item → (module_refusal fault ≡ None → IsUnfinished true unmade)
+    → UnmadeAs (λ (c : Coming). c ≡ coming_of_module number fault) unmade → (depth : ℕ) → UnmadeAs (FilesCome p depth all (files_fault p all)) unmade
+unread p all item number left modules file later fault unmade h are found is unfinished tells depth = by_cause (fault_found (module_file_check p file) fault found)
+  where
+    by_cause : (module_refusal fault ≡ None) ⊎ (module_file_check p file ≡ Err fault) → UnmadeAs (FilesCome p depth all (files_fault p all)) unmade
+    by_cause (inl none) = unfinished_as (FilesCome p depth all (files_fault p all)) true unmade (unfinished none)
+    by_cause (inr check) =
+        let first : files_fault p all ≡ Some (item, fault) = h.fault ∙ ap (first_failing (module_file_check p) item) are ∙ fault_step (module_file_check p) item file later (Err fault) check in
+        unmade_as (λ (c : Coming). c ≡ coming_of_module number fault) (FilesCome p depth all (files_fault p all))
+        (λ c e. subst (λ (f : Option (ℕ × ModuleFault)). FilesCome p depth all f c) (sym first) (e ∙ ap (λ (n : ℕ). coming_of_module n fault) is)) unmade tells
 
 -- ---- how long files are
 abbrev pub IsShort : List ℕ → Type 0
@@ -75,27 +80,27 @@ all_short name core names items count h =
 
 -- the first file that was loaded, a core file, is short, and so are those after it
 pub loaded_short : (name : List ℕ) (names : List (List ℕ)) (loaded : List Loaded) (d : Loaded) → loaded_items loaded ≡ Core name ∷ map Mapped names → items_limit (Core name ∷ map Mapped names) (loaded_bytes loaded) ≡ None
-    → IsShort (file_of (get_or loaded 0 d).read) × All IsShort (loaded_bytes (drop 1 loaded))
+    → IsShort (read_bytes (get_or loaded 0 d).read) × All IsShort (loaded_bytes (drop 1 loaded))
 loaded_short name names [] d h limit = let none : ⊥ = cc in absurd none
 loaded_short name names (l ∷ ls) d h limit =
     let later : loaded_items ls ≡ map Mapped names = cc in
-    let count : length (loaded_bytes ls) ≡ length names = length-map ls (λ (l : Loaded). file_of l.read) ∙ as_many ls (map Mapped names) later ∙ length-map names Mapped in
-    all_short name (file_of l.read) names (loaded_bytes ls) count limit
+    let count : length (loaded_bytes ls) ≡ length names = length-map ls (λ (l : Loaded). read_bytes l.read) ∙ as_many ls (map Mapped names) later ∙ length-map names Mapped in
+    all_short name (read_bytes l.read) names (loaded_bytes ls) count limit
 
 -- ---- what a core file and files come to
 -- a file is refused, or memory ran out
-pub files_unread : (core : List ℕ) (depth page : ℕ) (entries : List EntryView) (files : List File) (refused : Refusal) → core_check core ≡ Ok tt → file_entries_check (file_note core) ≡ Ok tt → HasEntries (file_note core) page entries
-    → ComesAs (ProcwalkComesIn depth files (process_of core page entries)) refused → ComesAs (ProcessComes core (ProcwalkComesIn depth files) (core_check core)) refused
-files_unread core depth page entries files refused fine note are =
-    comes_as (ProcwalkComesIn depth files (process_of core page entries)) (ProcessComes core (ProcwalkComesIn depth files) (core_check core))
-    (λ c h. from_process core page entries (ProcwalkComesIn depth files) c record { core_fine = fine; note_fine = note; are = are } h) refused
+pub files_unread : (core : List ℕ) (depth page : ℕ) (entries : List EntryView) (files : List File) (unmade : Unmade) → core_check core ≡ Ok tt → file_entries_check (file_note core) ≡ Ok tt → HasEntries (file_note core) page entries
+    → UnmadeAs (ProcwalkComesIn depth files (process_of core page entries)) unmade → UnmadeAs (ProcessComes core (ProcwalkComesIn depth files) (core_check core)) unmade
+files_unread core depth page entries files unmade fine note are =
+    unmade_as (ProcwalkComesIn depth files (process_of core page entries)) (ProcessComes core (ProcwalkComesIn depth files) (core_check core))
+    (λ c h. from_process core page entries (ProcwalkComesIn depth files) c record { core_fine = fine; note_fine = note; are = are } h) unmade
 
 -- the modules are of several machines, exceed a limit, or walk
-pub modules_walked : (core : List ℕ) (depth page : ℕ) (entries : List EntryView) (files : List File) (modules : List ModuleView) (made : Result Made Refusal) → core_check core ≡ Ok tt → file_entries_check (file_note core) ≡ Ok tt
+pub modules_walked : (core : List ℕ) (depth page : ℕ) (entries : List EntryView) (files : List File) (modules : List ModuleView) (made : Result Made Unmade) → core_check core ≡ Ok tt → file_entries_check (file_note core) ≡ Ok tt
     → HasEntries (file_note core) page entries → files_fault (process_of core page entries) files ≡ None → AllZip (IsModuleOf (process_of core page entries)) files modules
-    → ComesTo (λ (c : Coming). c ≡ coming_of_modules (mixed_item (arch_of core) modules) (sums_limit (tables_of modules)) (modules_walks entries modules core depth)) made
-    → ComesTo (ProcessComes core (ProcwalkComesIn depth files) (core_check core)) made
+    → MadeAs (λ (c : Coming). c ≡ coming_of_modules (mixed_item (arch_of core) modules) (sums_limit (tables_of modules)) (modules_walks entries modules core depth)) made
+    → MadeAs (ProcessComes core (ProcwalkComesIn depth files) (core_check core)) made
 modules_walked core depth page entries files modules made fine note are checked each =
-    comes_to (λ (c : Coming). c ≡ coming_of_modules (mixed_item (arch_of core) modules) (sums_limit (tables_of modules)) (modules_walks entries modules core depth)) (ProcessComes core (ProcwalkComesIn depth files) (core_check core))
+    made_as (λ (c : Coming). c ≡ coming_of_modules (mixed_item (arch_of core) modules) (sums_limit (tables_of modules)) (modules_walks entries modules core depth)) (ProcessComes core (ProcwalkComesIn depth files) (core_check core))
     (λ c e. from_process core page entries (ProcwalkComesIn depth files) c record { core_fine = fine; note_fine = note; are = are }
     (subst (λ (fault : Option (ℕ × ModuleFault)). FilesCome (process_of core page entries) depth files fault c) (sym checked) record { modules = modules; are = each; is = e })) made

@@ -1,15 +1,17 @@
 -- The texts of walks, one thread after the other, and how long a core file is that was loaded.
-use Rattle.std.proofs.Common.{◌≡◌, ◌+◌, ◌++◌, ◌<◌, ◌^◌, ℕ, List, [], ◌∷◌, None, length, get_or, refl, ap, sym, ◌∙◌, append_assoc, arith}
-use Rattle.sf_model.specs.Walk.{Listing, ThreadState}
+use Rattle.std.proofs.Common.{◌≡◌, ◌+◌, ◌++◌, ◌<◌, ◌^◌, ℕ, Bool, List, [], ◌∷◌, None, length, drop, get_or, refl, ap, sym, ◌∙◌, append_assoc, arith}
+use Rattle.std.proofs.lemmas.List.{drop_more}
+use Rattle.sf_model.specs.Walk.{Listing, LookUp, ThreadState, look_up_walk}
 use Rattle.core_notes.specs.declared.status.Thread.{Thread}
+use Rattle.core_notes.specs.Memory.{file_regions}
 use Rattle.core_walk.specs.Walk.{thread_state}
-use Rattle.sf_parts.specs.Read.{file_of}
+use Rattle.sf_words.specs.ItemRead.{read_bytes}
 use Rattle.sf_words.specs.declared.loaded.Loaded.{Loaded}
 use Rattle.sf_words.specs.Loading.{items_limit, loaded_bytes, loaded_items}
 use Rattle.sf_words.proofs.Loads.{goes_on, within_both}
 use Rattle.sf_words.specs.Items.{Core, Section}
 use Rattle.sf_words.specs.Words.{SectionWords}
-use Rattle.section_commands.specs.Walks.{listing_text, walks_text}
+use Rattle.section_commands.specs.Walks.{HasOneMore, TextsView, listing_text, walks_text}
 
 pub walks_on : (walk_of : ThreadState → Listing) (number : ℕ) (thread : Thread) (later : List Thread)
     → walks_text walk_of number (thread ∷ later) ≡ listing_text number thread (walk_of (thread_state thread)) ++ walks_text walk_of (number + 1) later
@@ -38,8 +40,18 @@ core_short section core bytes file h =
 
 -- the second file of a walk that was loaded
 pub walk_short : (section : SectionWords) (core : List ℕ) (loaded : List Loaded) (d : Loaded) → loaded_items loaded ≡ Section section ∷ Core core ∷ [] → items_limit (Section section ∷ Core core ∷ []) (loaded_bytes loaded) ≡ None
-    → length (file_of (get_or loaded 1 d).read) < 2 ^ 32
+    → length (read_bytes (get_or loaded 1 d).read) < 2 ^ 32
 walk_short section core [] d h limit = let none : ⊥ = cc in absurd none
 walk_short section core (a ∷ []) d h limit = let none : ⊥ = cc in absurd none
-walk_short section core (a ∷ b ∷ []) d h limit = core_short section core (file_of a.read) (file_of b.read) limit
+walk_short section core (a ∷ b ∷ []) d h limit = core_short section core (read_bytes a.read) (read_bytes b.read) limit
 walk_short section core (a ∷ b ∷ c ∷ ls) d h limit = let none : ⊥ = cc in absurd none
+
+-- ---- while threads are walked by what was read of a core file
+pub one_more_text : (rows : LookUp) (depth : ℕ) (read file : List ℕ) (is_part : Bool) (number k : ℕ) (threads : List Thread) (d : Thread) (before after : TextsView) (all : List ℕ) → k < length threads → read ≡ file
+    → HasOneMore is_part (listing_text number (get_or threads k d) (look_up_walk rows (thread_state (get_or threads k d)) (file_regions read) depth)) before after
+    → (length before.missed ≡ 0 → before.text ++ walks_text (λ (t : ThreadState). look_up_walk rows t (file_regions file) depth) number (drop k threads) ≡ all)
+    → length after.missed ≡ 0 → after.text ++ walks_text (λ (t : ThreadState). look_up_walk rows t (file_regions file) depth) (number + 1) (drop (k + 1) threads) ≡ all
+one_more_text rows depth read file is_part number k threads d before after all lt same one so_far none =
+    let grown = one.grown none in
+    next_walk (λ (t : ThreadState). look_up_walk rows t (file_regions file) depth) before.text after.text _ number (get_or threads k d) (drop k threads) (drop (k + 1) threads) all (drop_more threads k d lt)
+    (ap (λ (bytes : List ℕ). listing_text number (get_or threads k d) (look_up_walk rows (thread_state (get_or threads k d)) (file_regions bytes) depth)) same) grown.1 (so_far grown.0)

@@ -4,12 +4,13 @@ use Rattle.sf_bytes.specs.Cursor.{Cursor}
 use Rattle.sf_decode.specs.declared.fault.DecodeFault.TheVariants.{TooManyFunctions, TooManyRows}
 use Rattle.core_notes.specs.declared.fault.CoreFault.{CoreFault}
 use Rattle.core_notes.specs.Listing.{notes_in, whole_notes}
+use Rattle.core_notes.specs.Thread.{file_note_in}
 use Rattle.sf_modules.specs.declared.fault.ModuleFault.{ModuleFault}
-use Rattle.sf_modules.specs.declared.fault.ModuleFault.TheVariants.{Section}
+use Rattle.sf_modules.specs.declared.fault.ModuleFault.TheVariants.{Section, Unread}
 use Rattle.sf_modules.specs.Entry.{EntryView}
 use Rattle.sf_modules.specs.Fault.{Check}
 use Rattle.sf_modules.specs.FaultShown.{shown_of_module}
-use Rattle.sf_modules.specs.Note.{HasEntries, file_entries_check, file_note_in}
+use Rattle.sf_modules.specs.Note.{HasEntries, file_entries_check}
 use Rattle.sf_modules.specs.Process.{ProcessView, process_of}
 use Rattle.sf_words.specs.declared.refusal.Limit.TheVariants as limits
 use Rattle.section_commands.specs.Coming.{Coming, Exceeded, Refused}
@@ -45,3 +46,9 @@ NoteComes core Come (Ok u) coming = EntriesCome core Come coming
 abbrev pub ProcessComes : (core : List ℕ) → (ProcessView → Coming → Type 0) → Result (Unit {0}) CoreFault → Coming → Type 0
 ProcessComes core Come (Err fault) coming = coming ≡ coming_of_core 0 fault
 ProcessComes core Come (Ok u) coming = NoteComes core Come (file_entries_check (file_note core)) coming
+
+-- ---- Inside the crate
+-- it isn't that a part of the core file wasn't read
+abbrev pub IsFinalFault : ModuleFault → Type 0
+IsFinalFault (Unread address) = ⊥
+IsFinalFault fault = Unit {0}

@@ -20,7 +20,7 @@ mod walks;
 pub use dump::Dump;
 pub use laws::a_shown_section_comes_to_something;
 pub use lookup::Lookup;
-pub use made::{Made, Outcome};
+pub use made::{Made, Outcome, Unmade};
 pub use merge::Merge;
 pub use procwalk::{Procwalk, sums_limit, unread_module};
 pub use section::undecoded;

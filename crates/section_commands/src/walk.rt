@@ -1,23 +1,24 @@
 //! `walk FILE@AT CORE DEPTH`: the walks of a core file's threads by a section.
 
-ghost use Rattle.std.specs.Prelude.{◌≡◌, ◌<◌, ◌^◌, List, ℕ, None, length, map, IfSome, IsSomeAnd};
+ghost use Rattle.std.specs.Prelude.{◌≡◌, ◌<◌, ◌^◌, List, ℕ, None, true, length, map, IfSome, IsSomeAnd};
 ghost use Rattle.std.specs.String.{string_bytes};
 ghost use Rattle.sf_decode.specs.Decoding.{section_check};
 ghost use Rattle.core_notes.specs.Checks.{core_check};
 ghost use Rattle.sf_words.specs.Files.{files_of, items_of};
-ghost use Rattle.sf_words.specs.Loading.{files_limit, loaded_bytes, loaded_items};
-ghost use Rattle.section_commands.specs.Making.{ComesTo};
+ghost use Rattle.sf_words.specs.Loading.{AreReadWhole, files_limit, loaded_bytes, loaded_items};
+ghost use Rattle.core_parts.specs.Loaded.{core_read_bytes, is_whole};
+ghost use Rattle.section_commands.specs.Making.{MadeAs, NeedsNoMore};
 ghost use Rattle.section_commands.specs.Walk.{IsWalk, WalkComes, WalkComesFrom, WalkWords, walk_files, walk_of};
 
-use crate::made::{Made, Outcome};
+use crate::made::{Made, Outcome, Unmade};
 use crate::section::undecoded;
 use crate::walks::{mixed, same_machine, unread_core, view_walks};
-use core_notes::Core;
+use core_parts::{CoreInput, CoreRead};
 use sf_decode::View;
 use sf_text::Output;
 use sf_words::{
-    CommandFiles, FileList, Item, Loaded, MOST_FRAMES, Refusal, SectionFile, four_words,
-    number_up_to, section_file,
+    CommandFiles, FileList, Item, Loaded, MOST_FRAMES, SectionFile, four_words, number_up_to,
+    section_file,
 };
 use std::alloc::Global;
 
@@ -36,22 +37,23 @@ fn walk_made<'a, 'm>(
     alloc: Global,
     section: &[u8],
     at: u64,
-    core: &[u8],
+    core: &CoreRead,
     depth: u32,
-) -> Result<Made<'m>, Refusal<'a>>
-    requires { length core.now < 2 ^ 32 }
-    ensures { ComesTo (WalkComesFrom at section.now core.now depth (section_check section.now at) (core_check core.now)) result }
+) -> Result<Made<'m>, Unmade<'a>>
+    requires { length (core_read_bytes core.now) < 2 ^ 32 }
+    ensures comes { MadeAs (WalkComesFrom at section.now (core_read_bytes core.now) depth (section_check section.now at) (core_check (core_read_bytes core.now))) result }
+    ensures whole { is_whole core.now ≡ true → NeedsNoMore result }
 {
     let view = match View::parse(section, at) {
         Ok(view) => view,
-        Err(fault) => return Err(undecoded(fault, 0)),
+        Err(fault) => return Err(Unmade::Refused(undecoded(fault, 0))),
     };
-    let core = match Core::parse(core) {
+    let core = match CoreInput::parse(core) {
         Ok(core) => core,
-        Err(fault) => return Err(unread_core(&fault, 1)),
+        Err(fault) => return Err(Unmade::Refused(unread_core(&fault, 1))),
     };
     if !same_machine(view.arch(), core.arch()) {
-        return Err(mixed(1));
+        return Err(Unmade::Refused(mixed(1)));
     }
     let text = view_walks(alloc, &view, &core, depth)?;
     Ok(Made {
@@ -99,12 +101,13 @@ impl<'a> Walk<'a> {
     ///
     /// # Errors
     ///
-    /// `Refusal::Input` shows what is refused, `Refusal::Limit` has the limit that is exceeded, and
-    /// `Refusal::Memory` means that memory ran out.
-    pub fn make<'m>(&self, alloc: Global, loaded: &'m [Loaded<'a>]) -> Result<Made<'m>, Refusal<'a>>
+    /// `Refusal::Input` shows what is refused, `Refusal::Limit` has the limit that is exceeded, and `Refusal::Memory` means
+    /// that memory ran out. `Unmade::Unread` means that more of the core file has to be read.
+    pub fn make<'m>(&self, alloc: Global, loaded: &'m [Loaded<'a>]) -> Result<Made<'m>, Unmade<'a>>
         requires items { loaded_items loaded.now ≡ items_of (walk_files (walk_of self.now)) }
         requires within { files_limit (walk_files (walk_of self.now)) (loaded_bytes loaded.now) ≡ None }
-        ensures comes { ComesTo (WalkComes (walk_of self.now) (loaded_bytes loaded.now)) result }
+        ensures comes { MadeAs (WalkComes (walk_of self.now) (loaded_bytes loaded.now)) result }
+        ensures whole { AreReadWhole loaded.now → NeedsNoMore result }
     {
         match loaded {
             [section, core] => {
@@ -112,7 +115,7 @@ impl<'a> Walk<'a> {
                     alloc,
                     section.bytes(),
                     self.section.at,
-                    core.bytes(),
+                    core.core(),
                     self.depth,
                 )
             }

@@ -3,10 +3,10 @@ use Rattle.std.proofs.Common.{◌≡◌, ◌<◌, ℕ, List, map, length, ap, sy
 use Rattle.sf_model.specs.Section.{Section}
 use Rattle.sf_decode.specs.Decoding.{section_check}
 use Rattle.sf_decode.specs.View.{table_of}
-use Rattle.sf_parts.specs.Read.{file_of}
+use Rattle.sf_words.specs.ItemRead.{read_bytes}
 use Rattle.sf_words.specs.declared.item.Item.{Item}
 use Rattle.sf_words.specs.declared.loaded.Loaded.{Loaded}
-use Rattle.sf_words.specs.Items.{is_elf_input, item_of}
+use Rattle.sf_words.specs.Items.{may_be_by_parts, item_of}
 use Rattle.sf_words.specs.Loading.{loaded_bytes}
 use Rattle.sf_words.specs.Named.{named_sections}
 use Rattle.section_commands.specs.Merge.{IsSectionOf, item_check}
@@ -22,7 +22,7 @@ unreachable-requires c =
     c.in_default.not-Section section.0 (ap (λ (l : Loaded). l.item) c.file-item.is ∙ section.1)
 
 pub bytes-requires : goal.bytes-requires
-bytes-requires c = ap (λ (i : Item). is_elf_input (item_of i)) c.in-Section.is
+bytes-requires c = ap (λ (i : Item). may_be_by_parts (item_of i)) c.in-Section.is
 
 pub loop-file-preserved : goal.loop-file-preserved
 loop-file-preserved c =
@@ -31,7 +31,7 @@ loop-file-preserved c =
     let k = c.loop-file.file-index in
     let lt : k < length loaded = omega arith in
     let is_section = ap (λ (l : Loaded). l.item) (sym c.file-item.is) ∙ c.in-Section.is in
-    let bytes = c.bytes.ensures ∙ ap (λ (l : Loaded). file_of l.read) c.file-item.is in
+    let bytes = c.bytes.ensures ∙ ap (λ (l : Loaded). read_bytes l.read) c.file-item.is in
     let here = section_turn sections loaded k c.file-item.result c.in-Section.section c.requires.items lt is_section in
     let check = subst (λ (b : List ℕ). section_check b c.in-Section.section.at ≡ Ok tt) bytes (sym c.in-Ok.ensures.exact) in
     let is = subst (λ (b : List ℕ). Section b c.in-Section.section.at (table_of c.in-Ok.view)) bytes c.in-Ok.ensures.sound in
@@ -49,7 +49,7 @@ returns-in-Err-clause-refused c =
     let k = c.loop-file.file-index in
     let lt : k < length loaded = omega arith in
     let is_section = ap (λ (l : Loaded). l.item) (sym c.file-item.is) ∙ c.in-Section.is in
-    let bytes = c.bytes.ensures ∙ ap (λ (l : Loaded). file_of l.read) c.file-item.is in
+    let bytes = c.bytes.ensures ∙ ap (λ (l : Loaded). read_bytes l.read) c.file-item.is in
     let here = section_turn sections loaded k c.file-item.result c.in-Section.section c.requires.items lt is_section in
     let check = subst (λ (b : List ℕ). section_check b c.in-Section.section.at ≡ Err c.in-Err.fault) bytes (sym c.in-Err.ensures.exact) in
     let number : c.len-item.result ≡ k = omega (arith, c.len-item.ensures, c.loop-file.views.ok.0, c.loop-file.invariant.count) in

@@ -1,33 +1,41 @@
-use Rattle.std.proofs.Common.{◌≡◌, ◌++◌, ℕ, List, [], ◌∷◌, length, ap, sym, ◌∙◌, arith}
-use Rattle.std.proofs.lemmas.List.{append-nil}
-use Rattle.sf_model.specs.Memory.{Region}
+use Rattle.std.proofs.Common.{◌≡◌, ◌<◌, ◌⊎◌, ◌+◌, ◌++◌, ℕ, List, [], ◌∷◌, length, drop, get_or, true, inl, inr, ap, sym, ◌∙◌, arith}
+use Rattle.std.proofs.lemmas.Bool.{eqb-true}
+use Rattle.std.proofs.lemmas.List.{append-nil, drop_all}
 use Rattle.sf_model.specs.Walk.{Listing, ThreadState, look_up_walk}
 use Rattle.core_notes.specs.declared.status.Thread.{Thread}
-use Rattle.core_notes.specs.Views.{memory_of, threads_left}
-use Rattle.core_walk.specs.Walk.{thread_state}
-use Rattle.section_commands.specs.Walks.{listing_text, walks_text}
-use Rattle.section_commands.proofs.WalkTexts.{next_walk, no_walk}
+use Rattle.core_notes.specs.Memory.{file_regions}
+use Rattle.core_parts.specs.Input.{input_file}
+use Rattle.section_commands.specs.Walks.{HasOneMore, walks_text}
+use Rattle.section_commands.proofs.WalkTexts.{no_walk, one_more_text}
 use Rattle.section_commands.proofs.walks.walks_text.Goals as goal
 
 pub loop-thread-preserved : goal.loop-thread-preserved
 loop-thread-preserved g c =
-    let walk_of : ThreadState → Listing = λ thread. look_up_walk (g.L.LookUp.found_at c.args.rows.now) thread (memory_of c.args.core.now) c.args.depth in
-    let left : threads_left c.loop-thread.thread-iterator ≡ c.in-Some.thread ∷ threads_left c.next.new.self = c.in-Some.ensures.steps in
-    let count : length (threads_left c.loop-thread.thread-iterator) ≡ length (c.in-Some.thread ∷ threads_left c.next.new.self) = ap length left in
-    let piece : c.in_ok-thread_text.field-0.items ≡ listing_text c.loop-thread.number c.in-Some.thread (walk_of (thread_state c.in-Some.thread)) =
-    c.in_ok-thread_text.ensures ∙ ap (λ (l : Listing). listing_text c.loop-thread.number c.in-Some.thread l)
-    (c.in_ok-walked.ensures ∙ ap (λ (m : List Region). look_up_walk (g.L.LookUp.found_at c.args.rows.now) (thread_state c.in-Some.thread) m c.args.depth) c.in_ok-memory.ensures.memory) in
-    let grown : c.extend_from_slice.new.self.items ≡ c.loop-thread.text.items ++ c.in_ok-thread_text.field-0.items =
-    c.in_ok-extend_from_slice.ensures.items ∙ ap (λ (b : List ℕ). c.loop-thread.text.items ++ b) c.deref.ensures.value in
+    let before = c.loop-thread.invariant in
+    let one : HasOneMore _ _ _ _ = c.in_ok-push_walk.ensures in
+    let lt : c.loop-thread.thread-index < length c.deref-thread-items.result.now = omega arith in
     record {
-      count = omega (arith, count, c.loop-thread.invariant.count);
-      text = next_walk walk_of c.loop-thread.text.items _ c.in_ok-thread_text.field-0.items c.loop-thread.number c.in-Some.thread _ _ _ left piece grown c.loop-thread.invariant.text;
+      file = before.file;
+      part = before.part;
+      threads = before.threads;
+      few = before.few;
+      count = omega (arith, before.count);
+      text =
+          one_more_text (g.L.LookUp.found_at c.args.rows.now) c.args.depth _ _ _ c.loop-thread.number c.loop-thread.thread-index c.deref-thread-items.result.now _ _ _ _ lt before.file c.in_ok-push_walk.ensures before.text;
+      parts = λ some. elim (one.parts some) [
+        | inl earlier ↦ before.parts earlier
+        | inr part ↦ sym before.part ∙ part
+      ];
     }
 
-pub returns : goal.returns
-returns g c =
-    let walk_of : ThreadState → Listing = λ thread. look_up_walk (g.L.LookUp.found_at c.args.rows.now) thread (memory_of c.args.core.now) c.args.depth in
-    let none : threads_left c.loop-thread.thread-iterator ≡ [] = c.in-None.ensures.steps.0 in
-    let text = c.loop-thread.text.items in
+pub returns-then-is_empty-clause-text : goal.returns-then-is_empty-clause-text
+returns-then-is_empty-clause-text g c =
+    let walk_of : ThreadState → Listing = λ thread. look_up_walk (g.L.LookUp.found_at c.args.rows.now) thread (file_regions (input_file c.args.core.now)) c.args.depth in
+    let before = c.loop-thread.invariant in
+    let none : drop c.loop-thread.thread-index c.deref-thread-items.result.now ≡ [] = drop_all c.loop-thread.thread-index c.deref-thread-items.result.now (omega arith) in
+    let text = c.loop-thread.walks.text.items in
+    let missed = c.loop-thread.walks.missed in
+    let len = eqb-true missed.len 0 (sym c.is_empty.ensures ∙ c.if-is_empty.true) in
+    let empty : length missed.items ≡ 0 = omega (arith, len, missed.ok.0) in
     sym (append-nil text) ∙ ap (λ (t : List ℕ). text ++ t) (sym (no_walk walk_of c.loop-thread.number))
-    ∙ ap (λ (ts : List Thread). text ++ walks_text walk_of c.loop-thread.number ts) (sym none) ∙ c.loop-thread.invariant.text
+    ∙ ap (λ (ts : List Thread). text ++ walks_text walk_of c.loop-thread.number ts) (sym none) ∙ before.text empty
