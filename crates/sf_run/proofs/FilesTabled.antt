@@ -1,7 +1,7 @@
 -- Files of a process, one after the other, and the tables that are made of them.
 use Rattle.std.specs.List.{AllZip, find}
 use Rattle.std.specs.Option.{option_map}
-use Rattle.std.proofs.Common.{◌≡◌, ℕ, ◌+◌, ◌<◌, Bool, true, false, not, cond, List, [], ◌∷◌, ◌++◌, ◌==◌, length, get_or, drop, map, Option, Some, None, Result, Ok, Err, refl, ap, sym, subst, ◌∙◌, inl, inr, arith}
+use Rattle.std.proofs.Common.{◌≡◌, ℕ, ◌+◌, ◌<◌, Bool, true, false, not, cond, List, [], ◌∷◌, ◌++◌, ◌==◌, length, get_or, drop, map, Some, None, Result, Ok, Err, refl, ap, sym, subst, ◌∙◌, inl, inr, arith}
 use Rattle.std.proofs.lemmas.List.{drop_all, drop_more}
 use Rattle.sf_model.specs.declared.machine.Arch.{Arch}
 use Rattle.sf_merge.specs.Merging.{same_arch}
@@ -14,11 +14,11 @@ use Rattle.process_tables.proofs.Lookups.{as_many, module_there, table_at}
 use Rattle.section_commands.specs.Coming.{Coming}
 use Rattle.section_commands.specs.Process.{File}
 use Rattle.section_commands.specs.declared.made.Made.{Made}
-use Rattle.section_commands.specs.Making.{ComesAs, ComesTo}
-use Rattle.section_commands.proofs.Processes.{comes_to}
+use Rattle.section_commands.specs.declared.made.Unmade.{Unmade}
+use Rattle.section_commands.specs.Making.{ComesAs, MadeAs, UnmadeAs}
 use Rattle.sf_model.specs.Table.{Table}
 use Rattle.sf_modules.specs.Union.{tables_of}
-use Rattle.section_commands.proofs.Making.{comes_as, memory_comes}
+use Rattle.section_commands.proofs.Making.{comes_as, made_as, memory_comes, unmade_as}
 use Rattle.sf_asm.specs.declared.fault.LinkFault.{LinkFault}
 use Rattle.sf_asm.specs.declared.fault.LinkFault.TheVariants.{NoMemory}
 use Rattle.sf_modules.specs.Fault.{Check}
@@ -174,11 +174,11 @@ same_tables [] = refl
 same_tables (m ∷ modules) = ap (λ (ts : List Table). m.table ∷ ts) (same_tables modules)
 
 -- what files come to that were not all tabled
-pub refused_in : (depth : ℕ) (files : List File) (p : ProcessView) (refused : Refusal) → ComesAs (λ (c : Coming). FilesCome p 1 files (Err c)) refused → ComesAs (ProcbacktraceComesIn depth files p) refused
-refused_in depth files p = comes_as (λ (c : Coming). FilesCome p 1 files (Err c)) (ProcbacktraceComesIn depth files p) (λ c h. record { modules = Err c; come = h; is = refl })
+pub refused_in : (depth : ℕ) (files : List File) (p : ProcessView) (unmade : Unmade) → UnmadeAs (λ (c : Coming). FilesCome p 1 files (Err c)) unmade → UnmadeAs (ProcbacktraceComesIn depth files p) unmade
+refused_in depth files p = unmade_as (λ (c : Coming). FilesCome p 1 files (Err c)) (ProcbacktraceComesIn depth files p) (λ c h. record { modules = Err c; come = h; is = refl })
 
 -- what tabled files come to
-pub walked_in : (depth : ℕ) (files : List File) (p : ProcessView) (modules : List MappedModule) (made : Result Made Refusal) → FilesCome p 1 files (Ok modules) → ComesTo (λ (c : Coming). c ≡ coming_of_files p depth (Ok modules)) made
-    → ComesTo (ProcbacktraceComesIn depth files p) made
+pub walked_in : (depth : ℕ) (files : List File) (p : ProcessView) (modules : List MappedModule) (made : Result Made Unmade) → FilesCome p 1 files (Ok modules) → MadeAs (λ (c : Coming). c ≡ coming_of_files p depth (Ok modules)) made
+    → MadeAs (ProcbacktraceComesIn depth files p) made
 walked_in depth files p modules made come =
-    comes_to (λ (c : Coming). c ≡ coming_of_files p depth (Ok modules)) (ProcbacktraceComesIn depth files p) (λ c e. record { modules = Ok modules; come = come; is = e }) made
+    made_as (λ (c : Coming). c ≡ coming_of_files p depth (Ok modules)) (ProcbacktraceComesIn depth files p) (λ c e. record { modules = Ok modules; come = come; is = e }) made

@@ -8,7 +8,7 @@ use Rattle.std.proofs.lemmas.List.Elements.{All-nil, All-cons}
 use Rattle.sf_model.specs.declared.form.Form.TheVariants.{Elf}
 use Rattle.sf_asm.specs.declared.input.Input.{Input}
 use Rattle.sf_asm.specs.Functions.{Object, object_of}
-use Rattle.sf_parts.specs.Read.{file_of}
+use Rattle.sf_words.specs.ItemRead.{read_bytes}
 use Rattle.sf_words.specs.declared.item.Item.{Item}
 use Rattle.sf_words.specs.declared.item.Item.TheVariants as item
 use Rattle.sf_words.specs.declared.loaded.Loaded.{Loaded}
@@ -33,7 +33,7 @@ object_by (item.Core name) bytes = record { form = Elf; bytes = bytes; base = 0 
 object_by (item.Mapped name) bytes = record { form = Elf; bytes = bytes; base = 0 }
 
 abbrev pub loaded_object : Loaded → Object
-loaded_object file = object_by file.item (file_of file.read)
+loaded_object file = object_by file.item (read_bytes file.read)
 
 one_object : (i : Item) (bytes : List ℕ) (input : InputWords) → item_of i ≡ InputItem input → object_by i bytes ≡ object_in (input, bytes)
 one_object (item.Input j) bytes input e = let same : input_of j ≡ input = cc in ap (λ (w : InputWords). object_in (w, bytes)) same
@@ -48,7 +48,7 @@ loaded_objects (l ∷ ls) [] e = cc
 loaded_objects (l ∷ ls) (i ∷ is) e =
     let first : item_of l.item ≡ InputItem i = cc in
     let rest : loaded_items ls ≡ map InputItem is = cc in
-    ap (λ (o : Object). o ∷ map loaded_object ls) (one_object l.item (file_of l.read) i first) ∙ ap (λ (os : List Object). object_in (i, file_of l.read) ∷ os) (loaded_objects ls is rest)
+    ap (λ (o : Object). o ∷ map loaded_object ls) (one_object l.item (read_bytes l.read) i first) ∙ ap (λ (os : List Object). object_in (i, read_bytes l.read) ∷ os) (loaded_objects ls is rest)
 
 -- each of these items is an input
 pub input_at : (loaded : List Loaded) (inputs : List InputWords) (k : ℕ) (d : Loaded) → loaded_items loaded ≡ map InputItem inputs → k < length loaded → (input : InputWords) × (item_of (get_or loaded k d).item ≡ InputItem input)
@@ -146,15 +146,15 @@ later_of loaded first file named some is items =
     record { are = are; items = rest }
 
 -- the bytes of all, from those of the first
-pub with_first : {loaded later : List Loaded} {first : Loaded} {named : List InputWords} → Later loaded first named later → (bytes : List ℕ) → bytes ≡ file_of first.read → bytes ∷ loaded_bytes later ≡ loaded_bytes loaded
+pub with_first : {loaded later : List Loaded} {first : Loaded} {named : List InputWords} → Later loaded first named later → (bytes : List ℕ) → bytes ≡ read_bytes first.read → bytes ∷ loaded_bytes later ≡ loaded_bytes loaded
 with_first {loaded} {later} h bytes is = ap (λ (b : List ℕ). b ∷ loaded_bytes later) is ∙ sym (ap (λ (ls : List Loaded). loaded_bytes ls) h.are)
 
 limit_split : {loaded later : List Loaded} {first : Loaded} {named : List InputWords} (out : Option (List ℕ)) (file : ItemWords) → Later loaded first named later
     → files_limit (record { out = out; first = file ∷ []; list = map InputItem named }) (loaded_bytes loaded) ≡ None
-    → (length (map InputItem named) ≤ 512) × (bytes_limit 0 0 ((file, file_of first.read) ∷ zip (map InputItem named) (loaded_bytes later)) ≡ None)
+    → (length (map InputItem named) ≤ 512) × (bytes_limit 0 0 ((file, read_bytes first.read) ∷ zip (map InputItem named) (loaded_bytes later)) ≡ None)
 limit_split {loaded} {later} {first} {named} out file h limit =
     let files : FilesWords = record { out = out; first = file ∷ []; list = map InputItem named } in
-    within_limits files (file_of first.read ∷ loaded_bytes later) (subst (λ (ls : List Loaded). files_limit files (loaded_bytes ls) ≡ None) h.are limit)
+    within_limits files (read_bytes first.read ∷ loaded_bytes later) (subst (λ (ls : List Loaded). files_limit files (loaded_bytes ls) ≡ None) h.are limit)
 
 -- the inputs of a command that reads one file before them
 pub later_fit : {loaded later : List Loaded} {first : Loaded} {named : List InputWords} (out : Option (List ℕ)) (file : ItemWords) (inputs : List Input) → Later loaded first named later
@@ -163,12 +163,12 @@ pub later_fit : {loaded later : List Loaded} {first : Loaded} {named : List Inpu
 later_fit {loaded} {later} {first} {named} out file inputs h are some limit =
     let within = limit_split out file h limit in
     let rest = zip (map InputItem named) (loaded_bytes later) in
-    let here = within_both 0 0 file (file_of first.read) rest within.1 in
-    fit _ _ inputs named later h.items are some within.0 (sym (goes_on 0 0 file (file_of first.read) rest here.0 here.1) ∙ within.1)
+    let here = within_both 0 0 file (read_bytes first.read) rest within.1 in
+    fit _ _ inputs named later h.items are some within.0 (sym (goes_on 0 0 file (read_bytes first.read) rest here.0 here.1) ∙ within.1)
 
 -- how long that file is
 pub first_fits : {loaded later : List Loaded} {first : Loaded} {named : List InputWords} (out : Option (List ℕ)) (file : ItemWords) → Later loaded first named later
-    → files_limit (record { out = out; first = file ∷ []; list = map InputItem named }) (loaded_bytes loaded) ≡ None → length (file_of first.read) ≤ limit_of file
+    → files_limit (record { out = out; first = file ∷ []; list = map InputItem named }) (loaded_bytes loaded) ≡ None → length (read_bytes first.read) ≤ limit_of file
 first_fits {loaded} {later} {first} {named} out file h limit =
     let within = limit_split out file h limit in
-    (within_both 0 0 file (file_of first.read) (zip (map InputItem named) (loaded_bytes later)) within.1).0
+    (within_both 0 0 file (read_bytes first.read) (zip (map InputItem named) (loaded_bytes later)) within.1).0

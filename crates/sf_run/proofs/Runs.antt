@@ -1,7 +1,7 @@
 -- How a run ends, from what it comes to and from how its last step ends.
-use Rattle.std.specs.Prelude.{◌⊎◌, IfSome, IfOk, IfErr}
-use Rattle.std.proofs.Common.{◌≡◌, ◌<◌, ◌≤◌, ℕ, List, [], map, Option, Some, None, Result, Ok, Err, refl, ap, sym, subst, ◌∙◌, inl, inr}
-use Rattle.std.proofs.lemmas.List.{length-map}
+use Rattle.std.specs.Prelude.{◌⊎◌, IfSome}
+use Rattle.std.proofs.Common.{◌≡◌, ◌<◌, ◌≤◌, ℕ, All, true, List, [], map, Option, Some, None, refl, ap, sym, subst, ◌∙◌, inl, inr, arith}
+use Rattle.std.proofs.lemmas.List.{get_or-map, length-map}
 use Rattle.sf_base.specs.Contents.{contents_of}
 use Rattle.sf_base.specs.Faults.{Rose}
 use Rattle.sf_base.specs.Seen.{FilesSeen, SinkSeen, OnlyReads}
@@ -12,13 +12,13 @@ use Rattle.sf_words.specs.declared.refusal.Refusal.{Refusal}
 use Rattle.sf_words.specs.declared.refusal.Refusal.TheVariants as refusal
 use Rattle.sf_words.specs.Loading.{AreBytesOf, AreLoaded, Contents, IsLoadingRefusal, IsRead, NamesFailed, bytes_known}
 use Rattle.sf_words.specs.Files.{counted_items, items_of}
-use Rattle.sf_words.specs.Items.{ItemWords, name_of}
+use Rattle.sf_words.specs.Items.{ItemWords, is_core, name_of}
 use Rattle.sf_words.proofs.Limits.{few_limit, many_limit}
 use Rattle.section_commands.specs.declared.made.Made.{Made}
 use Rattle.section_commands.specs.declared.made.Outcome.{Outcome}
 use Rattle.section_commands.specs.declared.made.Outcome.TheVariants as outcome
 use Rattle.section_commands.specs.Coming.{Coming, ComesWithin, Exceeded, Makes}
-use Rattle.section_commands.specs.Making.{ComesAs, ComesTo, coming_of}
+use Rattle.section_commands.specs.Making.{ComesAs, coming_of}
 use Rattle.section_commands.proofs.Making.{comes_as}
 use Rattle.sf_run.specs.Comes.{AreItems, Comes, RefusesNothing, command_limit}
 use Rattle.sf_run.specs.Commands.{CanBeAsked, CommandComes, CommandWords, files_of_command}
@@ -29,10 +29,17 @@ use Rattle.sf_run.specs.Ends.{AnswersFor, Delivered, NoneFailed, RunComes, RunEn
 use Rattle.sf_run.specs.Status.{status_of}
 
 -- ---- what a run comes to, from what it loads
-pub made_runs : (command : CommandWords) (contents : Contents) (items : List (List ℕ)) → AreLoaded contents (items_of (files_of_command command)) items → (answer : Result Made Refusal) → ComesTo (Comes command items) answer
-    → IfOk answer (λ made. RunComes command contents (coming_of made))
-made_runs command contents items loaded (Ok made) h = record { items = items; bytes = loaded.bytes; comes = h }
-made_runs command contents items loaded (Err refused) h = tt
+pub made_runs : (command : CommandWords) (contents : Contents) (items : List (List ℕ)) → AreLoaded contents (items_of (files_of_command command)) items → (made : Made) → Comes command items (coming_of made)
+    → RunComes command contents (coming_of made)
+made_runs command contents items loaded made h = record { items = items; bytes = loaded.bytes; comes = h }
+
+-- nothing was read
+pub no_reads : (files : FilesSeen) → OnlyReads files files
+no_reads files = record { later = omega arith; rest = refl }
+
+-- what may be opened of all files may be opened of core files
+pub opens_cores : (P : List ℕ → Type 0) (items : List ItemWords) → All P (map name_of items) → All (λ (item : ItemWords). is_core item ≡ true → P (name_of item)) items
+opens_cores P items all = λ k d lt core. subst P (get_or-map name_of items k d (name_of d) lt) (all k (name_of d) (omega (arith, lt, length-map items name_of)))
 
 -- what is refused of the bytes of items is no failed read
 pub no_read : (P : Coming → Type 0) (refused : Refusal) → ComesAs P refused → IsRead refused → ⊥
@@ -53,10 +60,9 @@ refused_as command contents refusal.Memory h = h
 refused_as command contents (refusal.Limit limit) h = h
 refused_as command contents (refusal.Input notice) h = h
 
-pub refused_runs : (command : CommandWords) (contents : Contents) (items : List (List ℕ)) → AreLoaded contents (items_of (files_of_command command)) items → (answer : Result Made Refusal) → ComesTo (Comes command items) answer
-    → IfErr answer (RunRefuses command contents)
-refused_runs command contents items loaded (Ok made) h = tt
-refused_runs command contents items loaded (Err refused) h =
+pub refused_runs : (command : CommandWords) (contents : Contents) (items : List (List ℕ)) → AreLoaded contents (items_of (files_of_command command)) items → (refused : Refusal) → ComesAs (Comes command items) refused
+    → RunRefuses command contents refused
+refused_runs command contents items loaded refused h =
     refused_as command contents refused
     (comes_as (Comes command items) (RunComes command contents) (λ coming comes. record { items = items; bytes = loaded.bytes; comes = comes }) refused h)
 

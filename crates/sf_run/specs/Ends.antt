@@ -12,7 +12,8 @@ use Rattle.sf_words.specs.declared.refusal.Limit.{Limit}
 use Rattle.sf_words.specs.declared.refusal.Limit.TheVariants.{Inputs}
 use Rattle.sf_words.specs.declared.refusal.Refusal.{Refusal}
 use Rattle.sf_words.specs.declared.refusal.Refusal.TheVariants as refusal
-use Rattle.sf_words.specs.Loading.{AreBytesOf, Contents, bytes_known}
+use Rattle.sf_words.specs.declared.loaded.Loaded.{Loaded}
+use Rattle.sf_words.specs.Loading.{AreBytesOf, AreLoaded, Contents, bytes_known, loaded_bytes, loaded_items}
 use Rattle.sf_words.specs.Files.{item_names, items_of}
 use Rattle.section_commands.specs.Coming.{Coming, Refused, Exceeded, Makes}
 use Rattle.section_commands.specs.declared.made.Outcome.{Outcome}
@@ -148,7 +149,12 @@ SomeRunEnds answer before after =
     ⊎ (((command : CommandWords) × RunEnds answer command before after)
     ⊎ ((answer ≡ status.Memory) × TurnedAway before after memory_line))
 
--- ---- Inside the crate: refusals and deliveries
+-- ---- Inside the crate: what was loaded, refusals and deliveries
+-- these files were loaded for a command, within the limits
+pub record IsLoadedFor (command : CommandWords) (contents : Contents) (loaded : List Loaded) : Type 0 where
+  pub items : loaded_items loaded ≡ items_of (files_of_command command)
+  pub bytes : AreLoaded contents (items_of (files_of_command command)) (loaded_bytes loaded)
+
 -- why a run makes nothing: an item could not be read, or a refusal is what the run comes to, or memory ran out
 abbrev pub RunRefuses : CommandWords → Contents → Refusal → Type 0
 RunRefuses command contents (refusal.Read name) = Contains (item_names (files_of_command command)) name.now

@@ -11,3 +11,4 @@ pub mod Object
 pub mod Status
 pub mod Verify
 pub mod Procbacktrace
+pub mod Unrefused

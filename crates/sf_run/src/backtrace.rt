@@ -1,27 +1,28 @@
 //! `backtrace OUT@AT CORE DEPTH IN@BASE ..` makes the section of its inputs, and walks a core file's threads by it.
 
-ghost use Rattle.std.specs.Prelude.{◌≡◌, ◌≤◌, List, ℕ, None, IfOk, IfSome, IsSomeAnd, length, map};
+ghost use Rattle.std.specs.Prelude.{◌≡◌, List, ℕ, None, IfErr, IfOk, IfSome, IsSomeAnd, map};
 ghost use Rattle.std.specs.String.{string_bytes};
 ghost use Rattle.sf_model.specs.Section.{Section};
 ghost use Rattle.sf_model.specs.Table.{Table};
 ghost use Rattle.sf_model.specs.Walk.{section_walk};
-ghost use Rattle.core_notes.specs.Views.{memory_of, threads_of};
+ghost use Rattle.core_notes.specs.Checks.{file_threads};
+ghost use Rattle.core_notes.specs.Memory.{file_regions};
+ghost use Rattle.core_parts.specs.Input.{input_file, is_by_parts};
 ghost use Rattle.sf_words.specs.Files.{files_of, items_of};
-ghost use Rattle.sf_words.specs.Loading.{files_limit, loaded_bytes, loaded_items};
-ghost use Rattle.section_commands.specs.Making.{ComesTo};
+ghost use Rattle.sf_words.specs.Loading.{AreReadWhole, files_limit, loaded_bytes, loaded_items};
+ghost use Rattle.section_commands.specs.Making.{IsUnfinished, MadeAs, NeedsNoMore};
 ghost use Rattle.section_commands.specs.Walks as spec;
 ghost use Rattle.sf_run.specs.Backtrace.{BacktraceComes, BacktraceWords, IsBacktrace, backtrace_files, backtrace_of};
 
 use crate::linked::{inputs_in, unlinked};
-use core_notes::Core;
-use section_commands::{Made, Outcome, unread_core, view_walks};
-use sf_base::NoMemory;
+use core_parts::CoreInput;
+use section_commands::{Made, Outcome, Unmade, unread_core, view_walks};
 use sf_decode::View;
 use sf_link::link;
 use sf_text::Output;
 use sf_words::{
-    CommandFiles, FileList, Item, Loaded, MOST_FRAMES, NamedInputs, Refusal, SectionFile,
-    four_and_items, number_up_to, section_file,
+    CommandFiles, FileList, Item, Loaded, MOST_FRAMES, NamedInputs, SectionFile, four_and_items,
+    number_up_to, section_file,
 };
 use std::alloc::Global;
 
@@ -37,16 +38,16 @@ pub struct Backtrace<'a> {
 }
 
 /// Returns the texts of the walks of all threads by a section that was made, each of at most `depth` frames.
-fn section_walks(
+fn section_walks<'a>(
     alloc: Global,
     section: &[u8],
     at: u64,
-    core: &Core<'_>,
+    core: &CoreInput<'_>,
     depth: u32,
-) -> Result<Vec<u8>, NoMemory>
-    requires section { (table : Table) × Section section.now at table }
-    requires threads { length (threads_of core.now) ≤ 4096 }
-    ensures { (table : Table) → Section section.now at table → IfOk result (λ text. text.items ≡ spec.walks_text (λ thread. section_walk table.functions thread (memory_of core.now) depth) 0 (threads_of core.now)) }
+) -> Result<Vec<u8>, Unmade<'a>>
+    requires { (table : Table) × Section section.now at table }
+    ensures text { (table : Table) → Section section.now at table → IfOk result (λ text. text.items ≡ spec.walks_text (λ thread. section_walk table.functions thread (file_regions (input_file core.now)) depth) 0 (file_threads (input_file core.now))) }
+    ensures unfinished { IfErr result (IsUnfinished (is_by_parts core.now)) }
 {
     match View::parse(section, at) {
         Ok(view) => view_walks(alloc, &view, core, depth),
@@ -94,19 +95,21 @@ impl<'a> Backtrace<'a> {
     ///
     /// # Errors
     ///
-    /// The first fault of the core file or of linking, as a refusal; memory may run out at any time.
-    pub fn make<'m>(&self, alloc: Global, loaded: &'m [Loaded<'a>]) -> Result<Made<'m>, Refusal<'a>>
+    /// The first fault of the core file or of linking, as a refusal, or `Unmade::Unread` if more of the core file has to be
+    /// read; memory may run out at any time.
+    pub fn make<'m>(&self, alloc: Global, loaded: &'m [Loaded<'a>]) -> Result<Made<'m>, Unmade<'a>>
         requires asked { (words : List (List ℕ)) × IsBacktrace words (backtrace_of self.now) }
         requires items { loaded_items loaded.now ≡ items_of (backtrace_files (backtrace_of self.now)) }
         requires within { files_limit (backtrace_files (backtrace_of self.now)) (loaded_bytes loaded.now) ≡ None }
-        ensures { ComesTo (BacktraceComes (backtrace_of self.now) (loaded_bytes loaded.now)) result }
+        ensures comes { MadeAs (BacktraceComes (backtrace_of self.now) (loaded_bytes loaded.now)) result }
+        ensures whole { AreReadWhole loaded.now → NeedsNoMore result }
     {
         let [core, inputs @ ..] = loaded else {
             unreachable!()
         };
-        let core = match Core::parse(core.bytes()) {
+        let core = match CoreInput::parse(core.core()) {
             Ok(core) => core,
-            Err(fault) => return Err(unread_core(&fault, 0)),
+            Err(fault) => return Err(Unmade::Refused(unread_core(&fault, 0))),
         };
         let inputs = inputs_in(alloc, inputs)?;
         match link(alloc, &inputs, self.out.at, Some(core.arch())) {
@@ -118,7 +121,7 @@ impl<'a> Backtrace<'a> {
                     output: Output::Text(text),
                 })
             }
-            Err(fault) => Err(unlinked(&fault, None)),
+            Err(fault) => Err(Unmade::Refused(unlinked(&fault, None))),
         }
     }
 }

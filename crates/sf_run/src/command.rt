@@ -3,15 +3,16 @@
 ghost use Rattle.std.specs.Prelude.{◌≡◌, ℕ, List, None, IfSome, IsSomeAnd, map};
 ghost use Rattle.std.specs.String.{string_bytes};
 ghost use Rattle.sf_words.specs.Files.{files_of, items_of};
-ghost use Rattle.sf_words.specs.Loading.{loaded_bytes, loaded_items};
-ghost use Rattle.section_commands.specs.Making.{ComesTo};
+ghost use Rattle.sf_words.specs.Loading.{AreReadWhole, loaded_bytes, loaded_items};
+ghost use Rattle.section_commands.specs.Making.{MadeAs, NeedsNoMore};
 ghost use Rattle.sf_run.specs.Comes.{Comes, command_limit};
+ghost use Rattle.sf_run.specs.Unrefused as spec;
 ghost use Rattle.sf_run.specs.Commands.{CanBeAsked, CommandWords, IsCommand, files_of_command, words_of};
 
 use crate::backtrace::Backtrace;
 use crate::object::Gen;
 use crate::{link, procbacktrace, verify};
-use section_commands::{Dump, Lookup, Made, Merge, Procwalk, Slim, Walk};
+use section_commands::{Dump, Lookup, Made, Merge, Procwalk, Slim, Unmade, Walk};
 use sf_words::{CommandFiles, Loaded, Refusal, SectionAndInputs, section_and_inputs};
 use std::alloc::Global;
 
@@ -95,6 +96,16 @@ pub fn command_words(words: &[String]) -> Option<Command<'_>>
     Some(Command::Gen(object))
 }
 
+/// Returns what a command makes that reads no core file.
+fn or_refused<'a, 'm>(made: Result<Made<'m>, Refusal<'a>>) -> Result<Made<'m>, Unmade<'a>>
+    ensures { result ≡ spec.or_refused made.entry }
+{
+    match made {
+        Ok(made) => Ok(made),
+        Err(refusal) => Err(Unmade::Refused(refusal)),
+    }
+}
+
 impl<'a> Command<'a> {
     /// Returns the files that the command makes and reads.
     pub fn files(&self) -> CommandFiles<'a>
@@ -121,26 +132,29 @@ impl<'a> Command<'a> {
     /// # Errors
     ///
     /// `Refusal::Input` shows what is refused, `Refusal::Limit` has the limit of functions or rows that is exceeded,
-    /// and `Refusal::Memory` means that memory ran out. `Refusal::Read` is never returned.
-    pub fn make<'m>(&self, alloc: Global, loaded: &'m [Loaded<'a>]) -> Result<Made<'m>, Refusal<'a>>
+    /// and `Refusal::Memory` means that memory ran out. `Refusal::Read` is never returned. `Unmade::Unread` means that more of
+    /// a core file has to be read, of which parts were.
+    #[tactic(auto, using(crate::proofs::Unrefused::comes_unless_refused, crate::proofs::Unrefused::refused_is_final))]
+    pub fn make<'m>(&self, alloc: Global, loaded: &'m [Loaded<'a>]) -> Result<Made<'m>, Unmade<'a>>
         requires asked { CanBeAsked (words_of self.now) }
         requires items { loaded_items loaded.now ≡ items_of (files_of_command (words_of self.now)) }
         requires within { command_limit (words_of self.now) (loaded_bytes loaded.now) ≡ None }
-        ensures comes { ComesTo (Comes (words_of self.now) (loaded_bytes loaded.now)) result }
+        ensures comes { MadeAs (Comes (words_of self.now) (loaded_bytes loaded.now)) result }
+        ensures whole { AreReadWhole loaded.now → NeedsNoMore result }
     {
         match self {
-            Command::Link(named) => link::make(alloc, named, loaded),
-            Command::LinkPlt(named) => link::make_with_plts(alloc, named, loaded),
-            Command::Merge(merge) => merge.make(alloc, loaded),
-            Command::Slim(slim) => slim.make(alloc, loaded),
-            Command::Dump(dump) => dump.make(loaded),
-            Command::Lookup(lookup) => lookup.make(alloc, loaded),
-            Command::Verify(named) => verify::make(alloc, named, loaded),
+            Command::Link(named) => or_refused(link::make(alloc, named, loaded)),
+            Command::LinkPlt(named) => or_refused(link::make_with_plts(alloc, named, loaded)),
+            Command::Merge(merge) => or_refused(merge.make(alloc, loaded)),
+            Command::Slim(slim) => or_refused(slim.make(alloc, loaded)),
+            Command::Dump(dump) => or_refused(dump.make(loaded)),
+            Command::Lookup(lookup) => or_refused(lookup.make(alloc, loaded)),
+            Command::Verify(named) => or_refused(verify::make(alloc, named, loaded)),
             Command::Walk(walk) => walk.make(alloc, loaded),
             Command::Backtrace(backtrace) => backtrace.make(alloc, loaded),
             Command::Procwalk(procwalk) => procwalk.make(alloc, loaded),
             Command::Procbacktrace(named) => procbacktrace::make(alloc, named, loaded),
-            Command::Gen(object) => object.make(alloc),
+            Command::Gen(object) => or_refused(object.make(alloc)),
         }
     }
 }

@@ -1,7 +1,7 @@
 //! What the commands that link share: the inputs of loaded items, and the refusal that a fault is.
 
 ghost use Rattle.std.specs.Prelude.{◌≡◌, List, IfOk, IsTrue, map};
-ghost use Rattle.sf_parts.specs.Read.{file_of};
+ghost use Rattle.sf_words.specs.ItemRead.{read_bytes};
 ghost use Rattle.sf_asm.specs.Fault.{is_answered};
 ghost use Rattle.sf_asm.specs.Functions.{bytes_of, form_of, object_of};
 ghost use Rattle.sf_words.specs.Items.{Input as InputItem, item_of};
@@ -15,7 +15,7 @@ ghost use Rattle.sf_run.specs.Linked.{coming_of_link_fault};
 use sf_asm::{GatherFault, Input, InputBytes, LinkFault};
 use sf_base::NoMemory;
 use sf_parts::FileRead;
-use sf_words::{InputFile, Item, Limit, Loaded, Refusal};
+use sf_words::{InputFile, Item, ItemRead, Limit, Loaded, Refusal};
 use std::alloc::Global;
 
 /// Returns why inputs were not linked, as a refusal of the run, or of an item that it names.
@@ -39,11 +39,12 @@ pub fn unlinked<'a>(fault: &LinkFault, item: Option<u32>) -> Refusal<'a>
 fn input_bytes<'b>(input: InputFile<'_>, file: &'b Loaded<'_>) -> InputBytes<'b>
     requires { item_of file.now.item ≡ InputItem (input_of input) }
     ensures form { form_of result ≡ input.entry.form }
-    ensures bytes { bytes_of result ≡ file_of file.now.read }
+    ensures bytes { bytes_of result ≡ read_bytes file.now.read }
 {
     match &file.read {
-        FileRead::Linked(elf) => InputBytes::Linked(elf),
-        FileRead::Whole(bytes) => InputBytes::whole(input.form, bytes),
+        ItemRead::File(FileRead::Linked(elf)) => InputBytes::Linked(elf),
+        ItemRead::File(FileRead::Whole(bytes)) => InputBytes::whole(input.form, bytes),
+        ItemRead::Core(_) => unreachable!(),
     }
 }
 

@@ -1,13 +1,15 @@
 use Rattle.std.specs.List.{zip}
 use Rattle.std.specs.String.{string_bytes}
-use Rattle.std.proofs.Common.{◌≡◌, ◌<◌, ◌≤◌, ◌^◌, ◌-◌, ℕ, All, List, [], map, length, take, drop, get_or, refl, ap, sym, subst, ◌∙◌, arith}
+use Rattle.std.proofs.Common.{◌≡◌, ◌<◌, ◌≤◌, ◌^◌, ◌-◌, ℕ, All, List, [], map, length, take, drop, get_or, true, refl, ap, sym, subst, ◌∙◌, arith}
 use Rattle.core_notes.specs.Checks.{core_check}
-use Rattle.sf_parts.specs.Read.{file_of}
+use Rattle.core_parts.specs.Loaded.{core_read_bytes}
+use Rattle.sf_words.specs.ItemRead.{is_read_whole, read_bytes}
 use Rattle.sf_words.specs.declared.loaded.Loaded.{Loaded}
-use Rattle.sf_words.specs.Items.{Core, Mapped}
+use Rattle.sf_words.specs.Items.{Core, Mapped, is_core}
+use Rattle.sf_words.proofs.WholeFiles.{first_tested}
 use Rattle.sf_words.specs.Loading.{loaded_bytes}
 use Rattle.sf_words.proofs.Limits.{within_limits}
-use Rattle.section_commands.specs.Making.{ComesTo}
+use Rattle.section_commands.specs.Making.{MadeAs}
 use Rattle.section_commands.specs.Process.{ProcessComes}
 use Rattle.section_commands.specs.Procwalk.{procwalk_files, procwalk_of}
 use Rattle.sf_run.specs.Procbacktrace.{ProcbacktraceComesIn}
@@ -29,7 +31,7 @@ core_walked-requires-clause-short c =
     let loaded = c.args.loaded.now in
     let limits = within_limits (procwalk_files (procwalk_of c.args.named.now)) (loaded_bytes loaded) c.requires.within in
     let short = loaded_short c.args.named.now.core.now (map string_bytes c.args.named.now.files.now) loaded c.core-item.result c.requires.items limits.1 in
-    subst (λ (b : List ℕ). length b < 2 ^ 32) (sym (c.bytes.ensures ∙ ap (λ (l : Loaded). file_of l.read) c.core-item.is)) short.0
+    subst (λ (b : List ℕ). length b < 2 ^ 32) (sym (c.core.ensures.bytes ∙ ap (λ (l : Loaded). read_bytes l.read) c.core-item.is)) short.0
 
 pub core_walked-requires-clause-small : goal.core_walked-requires-clause-small
 core_walked-requires-clause-small c =
@@ -38,14 +40,23 @@ core_walked-requires-clause-small c =
     let short = loaded_short c.args.named.now.core.now (map string_bytes c.args.named.now.files.now) loaded c.core-item.result c.requires.items limits.1 in
     subst (λ (files : List Loaded). All IsShort (loaded_bytes files)) (sym (later_files loaded)) short.1
 
-pub returns : goal.returns
-returns c =
+pub core-requires : goal.core-requires
+core-requires c = first_tested is_core true c.args.loaded.now _ _ c.core-item.result _ c.requires.items c.core-item.is refl
+
+pub returns-clause-comes : goal.returns-clause-comes
+returns-clause-comes c =
     let loaded = c.args.loaded.now in
     let bytes = loaded_bytes loaded in
     let names = map string_bytes c.args.named.now.files.now in
     let depth = c.args.named.now.depth in
     let some : 0 < length loaded = omega (arith, c.in-len1-up.len_at_least) in
-    let core : c.bytes.result.now ≡ get_or bytes 0 [] = c.bytes.ensures ∙ ap (λ (l : Loaded). file_of l.read) c.core-item.is ∙ sym (bytes_at loaded 0 c.core-item.result some) in
+    let read = core_read_bytes c.core.result.now in
+    let core : read ≡ get_or bytes 0 [] = c.core.ensures.bytes ∙ ap (λ (l : Loaded). read_bytes l.read) c.core-item.is ∙ sym (bytes_at loaded 0 c.core-item.result some) in
     let files : loaded_bytes (take (length loaded - 1) (drop 1 loaded)) ≡ drop 1 bytes = ap loaded_bytes (later_files loaded) ∙ later_bytes loaded in
-    subst (λ (b : List ℕ). ComesTo (ProcessComes b (ProcbacktraceComesIn depth (zip names (drop 1 bytes))) (core_check b)) c.core_walked.result) core
-    (subst (λ (fs : List (List ℕ)). ComesTo (ProcessComes c.bytes.result.now (ProcbacktraceComesIn depth (zip names fs)) (core_check c.bytes.result.now)) c.core_walked.result) files c.core_walked.ensures)
+    subst (λ (b : List ℕ). MadeAs (ProcessComes b (ProcbacktraceComesIn depth (zip names (drop 1 bytes))) (core_check b)) c.core_walked.result) core
+    (subst (λ (fs : List (List ℕ)). MadeAs (ProcessComes read (ProcbacktraceComesIn depth (zip names fs)) (core_check read)) c.core_walked.result) files c.core_walked.ensures.comes)
+
+pub returns-clause-whole : goal.returns-clause-whole
+returns-clause-whole c = λ whole.
+    let some : 0 < length c.args.loaded.now = omega (arith, c.in-len1-up.len_at_least) in
+    c.core_walked.ensures.whole (sym c.core.ensures.whole ∙ ap (λ (l : Loaded). is_read_whole l.read) c.core-item.is ∙ whole 0 _ some)

@@ -1,19 +1,17 @@
 use Rattle.std.specs.List.{zip}
 use Rattle.std.specs.String.{string_bytes}
-use Rattle.std.proofs.Common.{◌≡◌, ◌<◌, ◌^◌, ◌+◌, ℕ, true, false, List, [], ◌∷◌, map, length, get_or, refl, ap, sym, subst, ◌∙◌, Ok, Err, arith}
+use Rattle.std.proofs.Common.{◌≡◌, ◌<◌, ◌^◌, ◌+◌, ℕ, true, List, [], ◌∷◌, map, length, get_or, refl, ap, sym, subst, ◌∙◌, Ok, Err, arith}
 use Rattle.std.proofs.lemmas.List.{length-append, length-map}
 use Rattle.std.proofs.lemmas.Result.{err_from_is_err_and}
 use Rattle.sf_modules.specs.Match.{is_candidate}
 use Rattle.sf_modules.specs.Process.{process_view}
-use Rattle.sf_parts.specs.Read.{file_of}
+use Rattle.sf_words.specs.ItemRead.{read_bytes}
 use Rattle.process_tables.specs.declared.table.MappedTable.{MappedTable}
-use Rattle.process_tables.specs.Modules.{MappedModule}
 use Rattle.sf_words.specs.declared.loaded.Loaded.{Loaded}
 use Rattle.sf_words.specs.Loading.{loaded_bytes}
 use Rattle.section_commands.specs.Coming.{Coming}
-use Rattle.section_commands.specs.Process.{File}
 use Rattle.section_commands.proofs.Lists.{a_mapped_file, bytes_at, left, mapped_turn, none_left}
-use Rattle.section_commands.proofs.Making.{comes_as}
+use Rattle.section_commands.proofs.Making.{unmade_as}
 use Rattle.sf_run.specs.Procbacktrace.{FileComes, FilesCome}
 use Rattle.sf_run.proofs.FilesTabled.{Tabled, all_tabled, none_tabled, one_tabled, passed_over, refused_at}
 use Rattle.sf_run.proofs.procbacktrace.tables_of.Goals as goal
@@ -38,9 +36,9 @@ table_of-requires c =
     let files = c.args.files.now in
     let k = c.loop-file.file-index in
     let lt : k < length files = c.loop-file-test.true in
-    let count = length-map files (λ (l : Loaded). file_of l.read) in
+    let count = length-map files (λ (l : Loaded). read_bytes l.read) in
     let short : length (get_or (loaded_bytes files) k []) < 2 ^ 32 = c.requires.small k [] (omega (arith, lt, count)) in
-    let is : c.bytes.result.now ≡ get_or (loaded_bytes files) k [] = c.bytes.ensures ∙ ap (λ (l : Loaded). file_of l.read) c.file-item.is ∙ sym (bytes_at files k c.file-item.result lt) in
+    let is : c.bytes.result.now ≡ get_or (loaded_bytes files) k [] = c.bytes.ensures ∙ ap (λ (l : Loaded). read_bytes l.read) c.file-item.is ∙ sym (bytes_at files k c.file-item.result lt) in
     let long = ap length is in
     omega (arith, short, long)
 
@@ -54,11 +52,11 @@ returns-in_err-table_of-clause-refused c =
     let word = c.in-Mapped.word.now in
     let is_mapped = ap (λ (l : Loaded). l.item) (sym c.file-item.is) ∙ c.in-Mapped.is in
     let here = mapped_turn names files k c.file-item.result c.in-Mapped.word c.requires.items c.loop-file-test.true is_mapped in
-    let bytes : c.bytes.result.now ≡ file_of (get_or files k c.file-item.result).read = c.bytes.ensures ∙ ap (λ (l : Loaded). file_of l.read) c.file-item.is in
+    let bytes : c.bytes.result.now ≡ read_bytes (get_or files k c.file-item.result).read = c.bytes.ensures ∙ ap (λ (l : Loaded). read_bytes l.read) c.file-item.is in
     let named : is_candidate word p.entries ≡ true = ap (λ (w : List ℕ). is_candidate w p.entries) (sym c.as_bytes.ensures.value) ∙ sym c.is_mapped_name.ensures ∙ c.if-is_mapped_name.true in
     let number : c.loop-file.item + 1 ≡ k + 1 = ap (λ (n : ℕ). n + 1) c.loop-file.invariant.count in
-    rw (e.1, e.2) (comes_as (λ (coming : Coming). FileComes p (c.loop-file.item + 1) (word, c.bytes.result.now) (Err coming)) (λ (coming : Coming). FilesCome p 1 (zip names (loaded_bytes files)) (Err coming))
-    (λ coming h. refused_at p (zip names (loaded_bytes files)) (k + 1) (word, file_of (get_or files k c.file-item.result).read) _ _ c.loop-file.tables.items coming here named c.loop-file.invariant.tabled
+    rw (e.1, e.2) (unmade_as (λ (coming : Coming). FileComes p (c.loop-file.item + 1) (word, c.bytes.result.now) (Err coming)) (λ (coming : Coming). FilesCome p 1 (zip names (loaded_bytes files)) (Err coming))
+    (λ coming h. refused_at p (zip names (loaded_bytes files)) (k + 1) (word, read_bytes (get_or files k c.file-item.result).read) _ _ c.loop-file.tables.items coming here named c.loop-file.invariant.tabled
     (subst (λ (b : List ℕ). FileComes p (k + 1) (word, b) (Err coming)) bytes (subst (λ (n : ℕ). FileComes p n (word, c.bytes.result.now) (Err coming)) number h)))
     c.in_err-table_of.field-0.0 c.in_err-table_of.ensures.refused)
 
@@ -72,13 +70,13 @@ loop-file-preserved c =
     let word = c.in-Mapped.word.now in
     let is_mapped = ap (λ (l : Loaded). l.item) (sym c.file-item.is) ∙ c.in-Mapped.is in
     let here = mapped_turn names files k c.file-item.result c.in-Mapped.word c.requires.items c.loop-file-test.true is_mapped in
-    let read = file_of (get_or files k c.file-item.result).read in
+    let read = read_bytes (get_or files k c.file-item.result).read in
     let number : c.loop-file.item + 1 ≡ k + 1 = ap (λ (n : ℕ). n + 1) c.loop-file.invariant.count in
     let test : is_candidate word p.entries ≡ c.is_mapped_name.result = ap (λ (w : List ℕ). is_candidate w p.entries) (sym c.as_bytes.ensures.value) ∙ sym c.is_mapped_name.ensures in
     elim c.if-is_mapped_name.branch [
       | then-is_mapped_name+in_ok-table_of+in_ok-push w ↦
           let made = w.in_ok-table_of.ensures.made in
-          let bytes : w.bytes.result.now ≡ read = w.bytes.ensures ∙ ap (λ (l : Loaded). file_of l.read) c.file-item.is in
+          let bytes : w.bytes.result.now ≡ read = w.bytes.ensures ∙ ap (λ (l : Loaded). read_bytes l.read) c.file-item.is in
           let same = ap (λ ts. ts.items) w.tables-is in
           let long = ap length (same ∙ w.in_ok-push.ensures.items) in
           let added = length-append c.loop-file.tables.items (w.in_ok-table_of.field-0 ∷ []) in

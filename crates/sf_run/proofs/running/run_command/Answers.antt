@@ -6,7 +6,7 @@ use Rattle.sf_words.specs.declared.refusal.Refusal.TheVariants as refusal
 use Rattle.sf_words.specs.Files.{FilesWords, counted_items}
 use Rattle.sf_run.specs.Commands.{files_of_command, words_of}
 use Rattle.sf_run.specs.Ends.{seen}
-use Rattle.sf_run.proofs.Runs.{ends_from_tells, too_many_runs}
+use Rattle.sf_run.proofs.Runs.{ends_from_tells, no_reads, too_many_runs}
 use Rattle.sf_run.proofs.running.run_command.Goals as goal
 
 pub load_and_deliver-requires-clause-few : goal.load_and_deliver-requires-clause-few
@@ -37,7 +37,7 @@ returns-then-len-gt-ITEM_COUNT-clause-ends g c =
     let many : 512 < counted_items (files_of_command command) = omega (arith, count, c.len.ensures, c.if-len-gt-ITEM_COUNT.true) in
     let files = g.F.Files.seen c.args.files.now in
     let out = g.O.Sink.seen c.args.out.now in
-    ends_from_tells (refusal.Limit Inputs) c.tell.result command (seen files out (g.E.Sink.seen c.args.err.now)) (seen files out (g.E.Sink.seen c.tell.new.err)) record { later = omega arith; rest = refl } refl
+    ends_from_tells (refusal.Limit Inputs) c.tell.result command (seen files out (g.E.Sink.seen c.args.err.now)) (seen files out (g.E.Sink.seen c.tell.new.err)) (no_reads files) refl
     (λ read. absurd read) tt (too_many_runs command files.contents many) c.tell.ensures
 
 pub returns-clause-counted : goal.returns-clause-counted
