@@ -7,6 +7,8 @@ mod files;
 #[cfg(test)]
 mod notes;
 #[cfg(test)]
+mod parts;
+#[cfg(test)]
 mod signal;
 #[cfg(test)]
 mod walk;

@@ -1,9 +1,13 @@
-//! Walks of threads as lists of frames. Whole runs over core files are cases in files.
+//! Walks of threads as lists of frames, by core files read whole and by parts. Whole runs over core files are cases in files.
+
+ghost use Rattle.std.specs.Prelude.{◌<◌, ◌^◌, length};
+ghost use Rattle.core_parts.specs.Loaded.{core_read_bytes};
 
 use crate::files::{File, MASKED, TWO_THREADS, bytes_of};
+use crate::parts::{files_of, load, load_parts};
 use base_tests::tables::expect;
 use core_notes::Core;
-use core_parts::{CoreRead, Walked, Wanted, load_core, walk_parts};
+use core_parts::{CoreInput, CoreRead, Walked, Wanted, walk_input};
 use core_walk::walk;
 use sf_decode::View;
 use sf_fakes::MemFiles;
@@ -12,20 +16,30 @@ use sframe_tests::samples::{PUSHING, SIGNING};
 use std::alloc::Global;
 use std::test::*;
 
-/// A section, a core file with changed bytes, and the program counters and frame addresses of its first thread, and the stop.
-type Case = (&'static [u8], File, &'static str, &'static str);
+/// A section, a core file with changed bytes, what a walk of its first thread misses of the parts that are read at first, and the thread's
+/// program counters and frame addresses, and the stop.
+type Case = (
+    &'static [u8],
+    File,
+    &'static str,
+    &'static str,
+    &'static str,
+);
 
 const CASES: [Case; 2] = [
     (
+        // The stack pointer is below the memory, so none of it is read at first. The return address is before the frame address.
         &PUSHING,
         TWO_THREADS,
         "",
+        "missed 7008, ",
         "4100 Some(28688), 4101 Some(28704), 0 None, Outside(18446744073709551615)",
     ),
     (
         &SIGNING,
         MASKED,
         "@622 7f",
+        "",
         "4104 Some(28704), 4116 Some(28736), Unreadable(28712)",
     ),
 ];
@@ -42,7 +56,7 @@ fn text_of(alloc: Global, walk: &Walk) -> Result<String, Fail> {
 
 #[test]
 fn threads_are_walked(rt: HostRuntime) -> Result<(), Fail> {
-    for (section, file, edits, wanted) in &CASES {
+    for (section, file, edits, _, wanted) in &CASES {
         let bytes = bytes_of(rt.alloc(), file, edits)?;
         let core = Core::parse(&bytes).ok().ok_or("the file is sound")?;
         let view = View::parse(section, 0x3000).ok().ok_or("a section")?;
@@ -53,36 +67,58 @@ fn threads_are_walked(rt: HostRuntime) -> Result<(), Fail> {
     Ok(())
 }
 
-// Loads a core file by parts, and again with the addresses that a walk of its first thread needs, until they are enough.
-// Returns the frames of the walk and its stop.
-fn text_by_parts(alloc: Global, section: &[u8], bytes: Vec<u8>) -> Result<String, Fail> {
-    let mut files = MemFiles::new(alloc, 4096, Vec::new(alloc));
-    if files.put("core", bytes).is_err() {
-        return Err("memory".into());
-    }
+/// Walks the first thread of a core file by what was read of it.
+fn walked(alloc: Global, section: &[u8], read: &CoreRead) -> Result<Walked, Fail>
+    requires { length (core_read_bytes read.now) < 2 ^ 32 }
+{
     let view = View::parse(section, 0x3000).ok().ok_or("a section")?;
+    let core = CoreInput::parse(read).ok().ok_or("the file is sound")?;
+    let threads = core.threads(alloc)?;
+    let thread = threads.first().ok_or("a thread")?;
+    let memory = core.memory(alloc)?;
+    Ok(walk_input(alloc, &view, thread, &memory, 64)?)
+}
+
+/// Loads parts of a core file, and again with the addresses that a walk of its first thread misses, until they are enough.
+/// Returns the frames of the walk and its stop, after the addresses.
+fn text_by_parts(alloc: Global, section: &[u8], files: &mut MemFiles) -> Result<String, Fail> {
     let mut addresses = Vec::new(alloc);
-    for round in 0..4 {
-        let wanted = Wanted::Memory(&addresses);
-        let Ok(CoreRead::Parts(core)) = load_core(alloc, &mut files, "core", 1 << 20, wanted) else {
-            return Err("parts".into());
-        };
-        let memory = core.memory(alloc)?;
-        let thread = core.threads().first().ok_or("a thread")?;
-        match walk_parts(alloc, &view, thread, &core, &memory, 64)? {
-            Walked::Whole(walk) => return text_of(alloc, &walk),
-            Walked::Missed(address) => addresses.push(address)?,
+    let mut missed = String::new(alloc);
+    for _ in 0..4 {
+        let read = load_parts(alloc, files, &addresses)?;
+        match walked(alloc, section, &read)? {
+            Walked::Whole(walk) => {
+                missed.push_str(&text_of(alloc, &walk)?)?;
+                return Ok(missed);
+            }
+            Walked::Missed(address) => {
+                missed.push_str(&format!(in alloc; "missed {address:x}, ")?)?;
+                addresses.push(address)?;
+            }
         }
     }
-    Err("more".into())
+    Err("parts are never enough".into())
+}
+
+/// Loads a core file whole. Returns the frames of a walk of its first thread, and its stop.
+fn text_by_whole(alloc: Global, section: &[u8], files: &mut MemFiles) -> Result<String, Fail> {
+    let read = load(alloc, files, Wanted::Whole)?;
+    match walked(alloc, section, &read)? {
+        Walked::Whole(walk) => text_of(alloc, &walk),
+        Walked::Missed(_) => Err("nothing is missed of a whole file".into()),
+    }
 }
 
 #[test]
 fn threads_are_walked_by_parts(rt: HostRuntime) -> Result<(), Fail> {
-    for (section, file, edits, wanted) in &CASES {
-        let bytes = bytes_of(rt.alloc(), file, edits)?;
-        let text = text_by_parts(rt.alloc(), section, bytes)?;
-        expect(edits, text.as_str(), wanted)?;
+    let alloc = rt.alloc();
+    for (section, file, edits, missed, wanted) in &CASES {
+        let mut files = files_of(alloc, bytes_of(alloc, file, edits)?)?;
+        let whole = text_by_whole(alloc, section, &mut files)?;
+        expect(edits, whole.as_str(), wanted)?;
+        let parts = text_by_parts(alloc, section, &mut files)?;
+        let all = format!(in alloc; "{missed}{wanted}")?;
+        expect(edits, parts.as_str(), all.as_str())?;
     }
     Ok(())
 }

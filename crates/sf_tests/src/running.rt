@@ -10,7 +10,7 @@ use sf_run::{Status, run};
 use std::alloc::{AllocError, Global};
 use std::process::Abort;
 use std::test::Fail;
-use worked::{BY_PARTS, PARTS, WORKED, Worked};
+use worked::{WORKED, Worked};
 
 /// How a run ends whose call fails: its status, its line, and what it leaves in `o`.
 #[derive(Drop)]
@@ -79,7 +79,7 @@ fn run_worked(
     requires { 0 < most }
 {
     let mut files = MemFiles::new(alloc, most, fails);
-    for (name, bytes) in worked.files {
+    for (name, bytes, _) in worked.reads {
         let put = files.put(name, bytes_of(alloc, bytes)?);
         put.ok().ok_or("memory")?;
     }
@@ -113,34 +113,55 @@ fn unread(alloc: Global, name: &str) -> Result<End, Fail> {
     })
 }
 
-/// How a run ends for each call of the files that it reads whole, in their order, where that call fails: a file is opened, and
-/// read up to its end and once more.
+/// Appends how a run ends for each read that it takes to read `len` bytes of this file, where that call fails.
+fn push_reads(
+    alloc: Global,
+    name: &str,
+    len: usize,
+    most: usize,
+    ends: &mut Vec<End>,
+) -> Result<(), Fail>
+    requires { 0 < most }
+{
+    for _ in 0..len.div_ceil(most) {
+        ends.push(unread(alloc, name)?)?;
+    }
+    Ok(())
+}
+
+/// Appends how a run ends for each call of a file that it reads by parts, after the file is opened, where that call fails: its
+/// length is asked for, and each part is moved to and read. Where there is no length or no move, the file is read whole.
+fn push_parts(
+    alloc: Global,
+    worked: &Worked,
+    name: &str,
+    parts: &[usize],
+    most: usize,
+    ends: &mut Vec<End>,
+) -> Result<(), Fail>
+    requires { 0 < most }
+{
+    ends.push(done_of(alloc, worked)?)?;
+    for size in parts {
+        ends.push(done_of(alloc, worked)?)?;
+        push_reads(alloc, name, *size, most, ends)?;
+    }
+    Ok(())
+}
+
+/// How a run ends for each call of the files that it reads, in their order, where that call fails: a file is opened, and read by
+/// parts, or up to its end and once more.
 fn ends_of_reads(alloc: Global, worked: &Worked, most: usize) -> Result<Vec<End>, Fail>
     requires { 0 < most }
 {
     let mut ends = Vec::new(alloc);
-    for (name, bytes) in worked.files {
+    for (name, bytes, parts) in worked.reads {
         ends.push(unread(alloc, name)?)?;
-        for _ in bytes_of(alloc, bytes)?.chunks(most) {
+        if parts.is_empty() {
+            push_reads(alloc, name, bytes_of(alloc, bytes)?.len(), most, &mut ends)?;
             ends.push(unread(alloc, name)?)?;
-        }
-        ends.push(unread(alloc, name)?)?;
-    }
-    Ok(ends)
-}
-
-/// How a run ends for each call of the file that it reads by parts, where that call fails: the file is opened, its length is
-/// asked for, and each part is moved to and read. Where there is no length or no move, the file is read whole.
-fn ends_of_parts(alloc: Global, most: usize) -> Result<Vec<End>, Fail>
-    requires { 0 < most }
-{
-    let mut ends = Vec::new(alloc);
-    ends.push(unread(alloc, "l")?)?;
-    ends.push(done_of(alloc, &BY_PARTS)?)?;
-    for size in PARTS {
-        ends.push(done_of(alloc, &BY_PARTS)?)?;
-        for _ in vec![in alloc; 0u8; size]?.chunks(most) {
-            ends.push(unread(alloc, "l")?)?;
+        } else {
+            push_parts(alloc, worked, name, parts, most, &mut ends)?;
         }
     }
     Ok(ends)
@@ -221,8 +242,7 @@ fn expect_calls_of_files(rt: &impl Abort, alloc: Global, most: usize) -> Result<
         let ends = ends_of_reads(alloc, worked, most)?;
         expect_calls(rt, alloc, worked, most, ends)?;
     }
-    let ends = ends_of_parts(alloc, most)?;
-    expect_calls(rt, alloc, &BY_PARTS, most, ends)
+    Ok(())
 }
 
 /// Asserts that each write of the output that fails ends each run as it has to, with the section whole.

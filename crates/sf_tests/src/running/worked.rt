@@ -1,101 +1,112 @@
 //! A run of each command that is done, with the values of its cases.
 
-/// The words of a run, its files in the order in which they are read, the section that it leaves in `o`, and its text.
+/// A file that is read: its name, its bytes, and how many bytes each part has that is read of it, or nothing if it is read whole.
+pub type Read = (&'static str, &'static str, &'static [usize]);
+
+/// The words of a run, the files that it reads, in their order, the section that it leaves in `o`, and its text.
 pub struct Worked {
     pub words: &'static str,
-    pub files: &'static [(&'static str, &'static str)],
+    pub reads: &'static [Read],
     pub section: Option<&'static str>,
     pub text: &'static str,
 }
 
-pub const WORKED: [Worked; 12] = [
+pub const WORKED: [Worked; 13] = [
     Worked {
         words: "link o@0x3000 eh-amd64:e@0x2000",
-        files: &[("e", ONE_FUNCTION)],
+        reads: &[("e", ONE_FUNCTION, &[])],
         section: Some(ONE_FUNCTION_SECTION),
         text: "kept 1 omitted 0\n",
     },
     Worked {
         words: "linkplt o@0x3000 eh-amd64:p@0x2000",
-        files: &[("p", PLT)],
+        reads: &[("p", PLT, &[])],
         section: Some(PLT_SECTION),
         text: "plt 0x1000 size 48 input 0 section 0 fde 0x18\nkept 0 omitted 0 plt 1\n",
     },
     Worked {
         words: "merge o@0x3000 s@0x3000 n@0x3000",
-        files: &[("s", ONE_FUNCTION_SECTION), ("n", NO_FUNCTIONS_SECTION)],
+        reads: &[
+            ("s", ONE_FUNCTION_SECTION, &[]),
+            ("n", NO_FUNCTIONS_SECTION, &[]),
+        ],
         section: Some(ONE_FUNCTION_SECTION),
         text: "merged 1 functions 4 rows\n",
     },
     Worked {
         words: "slim o@0x3000 s@0x3000",
-        files: &[("s", ONE_FUNCTION_SECTION)],
+        reads: &[("s", ONE_FUNCTION_SECTION, &[])],
         section: Some(ONE_FUNCTION_SECTION),
         text: "slim 63 63 functions 1 rows 4\n",
     },
     Worked {
         words: "dump s@0x3000",
-        files: &[("s", ONE_FUNCTION_SECTION)],
+        reads: &[("s", ONE_FUNCTION_SECTION, &[])],
         section: None,
         text: "sframe 2 amd64 flags 0x5 functions 1 rows 4\nfunc 0x1000 size 6 plain key a rows 4\n  \
                +0 cfa=sp+8\n  +1 cfa=sp+16 fp=c-16\n  +4 cfa=fp+16 fp=c-16\n  +5 cfa=sp+8 fp=c-16\n",
     },
     Worked {
         words: "lookup s@0x3000 0x1005",
-        files: &[("s", ONE_FUNCTION_SECTION)],
+        reads: &[("s", ONE_FUNCTION_SECTION, &[])],
         section: None,
         text: "0x1005 in 0x1000 row +5 cfa=sp+8 fp=c-16\n",
     },
     Worked {
         words: "verify s@0x3000 eh-amd64:e@0x2000",
-        files: &[("s", ONE_FUNCTION_SECTION), ("e", ONE_FUNCTION)],
+        reads: &[("s", ONE_FUNCTION_SECTION, &[]), ("e", ONE_FUNCTION, &[])],
         section: None,
         text: "agrees checked 1 missing 0 repeats 0\n",
     },
     Worked {
         words: "gen 1",
-        files: &[],
+        reads: &[],
         section: None,
         text: "gen 1 kept 1 omitted 0 length 57 sum 1680\n",
     },
+    // No memory is where the stack pointer is, so the walk misses it, and the core file is read again.
     Worked {
         words: "walk s@0x3000 c 64",
-        files: &[("s", ONE_FUNCTION_SECTION), ("c", CORE)],
+        reads: &[
+            ("s", ONE_FUNCTION_SECTION, &[]),
+            ("c", CORE, HEAD),
+            ("c", CORE, HEAD_AND_MEMORY),
+        ],
         section: None,
         text: WALKED,
     },
     Worked {
         words: "backtrace o@0x3000 c 64 eh-amd64:e@0x2000",
-        files: &[("c", CORE), ("e", ONE_FUNCTION)],
+        reads: &[
+            ("c", CORE, HEAD),
+            ("e", ONE_FUNCTION, &[]),
+            ("c", CORE, HEAD_AND_MEMORY),
+        ],
         section: Some(ONE_FUNCTION_SECTION),
         text: WALKED,
     },
     Worked {
         words: "procwalk c 64 a",
-        files: &[("c", MAPPED_CORE), ("a", MODULE)],
+        reads: &[("c", MAPPED_CORE, MAPPED_PARTS), ("a", MODULE, &[])],
         section: None,
         text: "thread 0 pid 100\n  #0 pc 0x1004 cfa 0x7010\n  #1 pc 0x1005 cfa 0x7020\n  #2 pc 0x0\n  \
                stop outside 0xffffffffffffffff\nthread 1 pid 101\n  #0 pc 0x1000 cfa 0x9008\n  stop unreadable 0x9000\n",
     },
     Worked {
         words: "procbacktrace c 64 a",
-        files: &[("c", MAPPED_CORE), ("a", CALLS)],
+        reads: &[("c", MAPPED_CORE, MAPPED_PARTS), ("a", CALLS, &[])],
         section: None,
         text: "thread 0 pid 100\n  #0 pc 0x1004 cfa 0x7010 a+0x4\n  #1 pc 0x1005 cfa 0x7020 a+0x5\n  #2 pc 0x0\n  \
                stop outside 0xffffffffffffffff\nthread 1 pid 101\n  #0 pc 0x1000 cfa 0x9008 a+0x0\n  stop unreadable 0x9000\n",
     },
+    // The file header, the section headers, their names, and the call frame information.
+    Worked {
+        words: "link o@0x3000 l@0x0",
+        reads: &[("l", LINKED, &[64, 192, 21, 60])],
+        section: Some(ONE_FUNCTION_SECTION),
+        text: "kept 1 omitted 0\n",
+    },
 ];
-
-/// A run over a shared object, of which the file header, the section headers, the names and the call frame information are read.
-pub const BY_PARTS: Worked = Worked {
-    words: "link o@0x3000 l@0x0",
-    files: &[("l", LINKED)],
-    section: Some(ONE_FUNCTION_SECTION),
-    text: "kept 1 omitted 0\n",
-};
-
-/// The bytes of these parts.
-pub const PARTS: [usize; 4] = [64, 192, 21, 60];
 
 /// For AMD64 and the address 0x2000: one function of 6 bytes at 0x1000.
 const ONE_FUNCTION: &str = "14 00*7 01 7a 52 00 01 78 10 01 1b 0c 07 08 90 01 00 00 \
@@ -118,24 +129,35 @@ const PLT_SECTION: &str =
     "e2 de 02 05 03 00 f8 00 02 00*3 04 00*3 0c 00*7 28 00*3 e4 df ff ff 10 00*7 02 00*7 \
      e0 df ff ff 20 00*3 06 00*3 02 00*3 10 10 00*3 03 10 06 03 18 00 03 08 0b 03 10";
 
-/// A core file for AMD64 with a segment of 32 bytes at 0x7000, which holds 0x7010, 0x1005, 0 and 0, and one thread: pid 100 at
+/// A core file for AMD64 with two segments: notes, and 32 bytes at 0x7000, which hold 0x7010, 0x1005, 0 and 0, and one thread: pid 100 at
 /// 0x1004 with the frame pointer 0x7000 and the stack pointer 0x6ff0.
 const CORE: &str =
     "7f 45 4c 46 02 01 01 00*9 04 00 3e 00 01 00*11 40 00*19 40 00 38 00 02 00*7 04 00*7 b0 00*23 64 01 00*6 64 01 00*6 \
      01 00*7 01 00*7 14 02 00*7 70 00*14 20 00*7 20 00*7 01 00*7 05 00*3 50 01 00 00 01 00*3 43 4f 52 45 00*36 64 \
      00*112 70 00*94 04 10 00*22 f0 6f 00*70 10 70 00*6 05 10 00*22";
 
+/// Its file header, its program headers, and its notes.
+const HEAD: &[usize] = &[64, 2 * 56, 356];
+
+/// The same, and its memory.
+const HEAD_AND_MEMORY: &[usize] = &[64, 2 * 56, 356, 32];
+
 /// The frames of that thread, by the section at 0x3000.
 const WALKED: &str =
     "thread 0 pid 100\n  #0 pc 0x1004 cfa 0x7010\n  #1 pc 0x1005 cfa 0x7020\n  #2 pc 0x0\n  stop outside 0xffffffffffffffff\n";
 
-/// That core file with a second thread, pid 101 at 0x1000 with the stack pointer 0x9000, and with a note on mapped files: the first page
-/// of `/bin/a` is at 0x1000.
+/// That core file with the stack pointer 0x7000 and a second thread, pid 101 at 0x1000 with the stack pointer 0x9000. A note on mapped
+/// files has the first page of `/bin/a` at 0x1000, and a third segment its first eight bytes.
 const MAPPED_CORE: &str =
-    "7f 45 4c 46 02 01 01 00*9 04 00 3e 00 01 00*11 40 00*19 40 00 38 00 02 00*7 04 00*7 b0 00*23 0c 03 00*6 0c 03 00*6 \
-     01 00*7 01 00*7 c0 03 00*7 70 00*14 20 00*7 20 00*7 01 00*7 05 00*3 50 01 00 00 01 00*3 43 4f 52 45 00*36 64 00*112 \
-     70 00*94 04 10 00*22 f0 6f 00*70 05 00*3 50 01 00 00 01 00*3 43 4f 52 45 00*36 65 00*208 10 00*23 90 00*70 05 00*3 \
-     2f 00*3 45 4c 49 46 43 4f 52 45 00*4 01 00*8 10 00*7 10 00*7 20 00*14 2f 62 69 6e 2f 61 00*6 10 70 00*6 05 10 00*22";
+    "7f 45 4c 46 02 01 01 00*9 04 00 3e 00 01 00*11 40 00*19 40 00 38 00 03 00*7 04 00*7 e8 00*23 0c 03 00*6 0c 03 00*6 \
+     01 00*7 01 00*3 05 00*3 f8 03 00*7 10 00*14 08 00*8 10 00*6 01 00*7 01 00*8 04 00*7 70 00*14 20 00*7 20 00*7 01 00*7 \
+     05 00*3 50 01 00 00 01 00*3 43 4f 52 45 00*36 64 00*112 70 00*94 04 10 00*23 70 00*70 \
+     05 00*3 50 01 00 00 01 00*3 43 4f 52 45 00*36 65 00*208 10 00*23 90 00*70 05 00*3 \
+     2f 00*3 45 4c 49 46 43 4f 52 45 00*4 01 00*8 10 00*7 10 00*7 20 00*14 2f 62 69 6e 2f 61 00*6 \
+     7f 45 4c 46 02 01 01 00 10 70 00*6 05 10 00*22";
+
+/// Its file header, its program headers, its notes, the first thread's stack, and the beginning of `/bin/a`.
+const MAPPED_PARTS: &[usize] = &[64, 3 * 56, 780, 32, 8];
 
 /// A shared object for AMD64, loaded from its first byte on, with a section `.sframe` at 0x200: a function of 6 bytes at 0.
 const MODULE: &str =

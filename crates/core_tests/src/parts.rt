@@ -1,0 +1,88 @@
+//! Core files in memory that are read by parts, and which parts these are: no clause says it.
+
+ghost use Rattle.std.specs.Prelude.{◌<◌, ◌^◌, IfOk, length};
+ghost use Rattle.core_parts.specs.Loaded.{core_read_bytes};
+
+use crate::files::{TWO_THREADS, bytes_of};
+use base_tests::tables::{number, prints, put, row};
+use core_parts::{CoreInput, CoreRead, InputMap, Wanted, load_core};
+use sf_fakes::MemFiles;
+use std::alloc::Global;
+use std::test::*;
+
+/// What is found of a memory of 0x30000 bytes at 0x7000: at an address, and how many bytes. The stack pointers are 0x17008 and 0x6000.
+const FOUND: &str = "
+    # From the stack pointer's block on, the second of three, up to the segment's end.
+    0x17000 8 => Ok(Some([1, 2, 3, 4, 5, 6, 7, 8]))
+    0x17006 9 => Ok(Some([7, 8, 0, 0, 0, 0, 0, 0, 0]))
+    0x36ff8 8 => Ok(Some([9, 0, 0, 0, 0, 0, 0, 0]))
+    # Not read, or not all of them. Fewer than eight are not looked for.
+    0x7000 8 => Err(Unread(28672))
+    0x16ff8 8 => Err(Unread(94200))
+    0x16ffc 8 => Err(Unread(94204))
+    0x17000 7 => Err(Unread(94208))
+    # No segment has all of them.
+    0x6fff 8 => Ok(None)
+    0x36ff9 8 => Ok(None)
+    0xfffffffffffffffc 8 => Ok(None)
+";
+
+/// Loads of a core file what is wanted.
+pub fn load(alloc: Global, files: &mut MemFiles, wanted: Wanted<'_>) -> Result<CoreRead, Fail>
+    ensures { IfOk result (λ read. length (core_read_bytes read) < 2 ^ 32) }
+{
+    match load_core(alloc, files, "core", 1 << 20, wanted) {
+        Ok(read) => Ok(read),
+        Err(_) => Err("load".into()),
+    }
+}
+
+/// Loads parts of a core file, with those at these addresses.
+pub fn load_parts(alloc: Global, files: &mut MemFiles, addresses: &[u64]) -> Result<CoreRead, Fail>
+    ensures { IfOk result (λ read. length (core_read_bytes read) < 2 ^ 32) }
+{
+    let read = load(alloc, files, Wanted::Memory(addresses))?;
+    match &read {
+        CoreRead::Parts(_) => {}
+        CoreRead::Whole(_) => return Err("the file was read whole".into()),
+    }
+    Ok(read)
+}
+
+/// Returns files with a core file of these bytes.
+pub fn files_of(alloc: Global, bytes: Vec<u8>) -> Result<MemFiles, Fail> {
+    let mut files = MemFiles::new(alloc, 4096, Vec::new(alloc));
+    let put = files.put("core", bytes);
+    put.ok().ok_or("memory")?;
+    Ok(files)
+}
+
+/// Returns the core file of that memory, whose bytes begin at 888. Of its second block the first eight are 1 to 8, and of the last eight
+/// the first is 9.
+fn three_blocks(alloc: Global) -> Result<Vec<u8>, Fail> {
+    let mut bytes = bytes_of(
+        alloc,
+        &TWO_THREADS,
+        "@152 00 00 03 @460 08 70 01 @816 00 60",
+    )?;
+    bytes.resize(888 + 0x30000, 0)?;
+    put(&mut bytes, "@66424 01 02 03 04 05 06 07 08 @197488 09")?;
+    Ok(bytes)
+}
+
+#[test]
+fn stacks_are_read_by_blocks(rt: HostRuntime) -> Result<(), Fail> {
+    let alloc = rt.alloc();
+    let mut files = files_of(alloc, three_blocks(alloc)?)?;
+    let read = load_parts(alloc, &mut files, &[])?;
+    let core = CoreInput::parse(&read).ok().ok_or("the file is sound")?;
+    let map = InputMap::new(alloc, &core)?;
+    for line in FOUND.lines() {
+        if let Some((given, wanted)) = row(line) {
+            let (address, len) = given.split_once(" ").ok_or("two numbers")?;
+            let found = map.bytes_at(number(address)?, number(len)?);
+            prints(alloc, given, &found, wanted)?;
+        }
+    }
+    Ok(())
+}
