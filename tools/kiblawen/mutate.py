@@ -10,17 +10,22 @@ The same seed tries the same runs in the same order, on any machine. Each run is
 - make no OUT, and leave every other file as it was, on 2, 3, 5, 6 and 7;
 - give the same status, streams and files both times.
 
+If the words name the changed file once, as one that is read, a third run has a named pipe in its place. Of a pipe the program reads
+all, and of a file the parts that it needs: both have to come to the same.
+
 A run that does not is shown, with the seed and its number, and its files are kept. The last line is `N runs, M failed`.
 """
 
+import contextlib
 import os
 import random
 import re
 import subprocess
 import tempfile
+import threading
 import time
 
-from kiblawen import cases, common, program
+from kiblawen import cases, commands, common, program
 
 SECONDS = 20
 # What the program says on standard error, by status (docs/messages.md).
@@ -28,6 +33,8 @@ LINES = {
     2: r"usage", 3: r"read .+", 4: r"write (?:output|file .+)", 5: r"refused (?:\d+ (?:elf|place|reloc|record|insn|machine|section|core|module)|link) \w+(?: 0x[0-9a-f]+)*",
     6: r"memory", 7: r"limit (?:inputs|total|functions|rows|threads|file \d+)",
 }
+# The commands that write a file, which the first word after them names.
+WITH_OUT = {form.split()[0].encode() for form, _ in commands.commands() if " OUT" in form}
 # Values that are written over a byte or a word: the ends of ranges.
 ENDS = [0, 1, 0x7F, 0x80, 0xFF]
 
@@ -63,25 +70,61 @@ def changed(chance, contents):
     return bytes(bytes_)
 
 
-def run_once(tool, words, files):
-    """Runs the program in a folder of its own: status, both streams, and the files afterwards."""
+@contextlib.contextmanager
+def pipe(path, contents):
+    """A named pipe at this path, which gives the contents to the first that opens it."""
+
+    def feed():
+        # Who opened it may close it before its end.
+        with contextlib.suppress(BrokenPipeError), open(path, "wb") as file:
+            file.write(contents)
+
+    os.makedirs(os.path.dirname(path), exist_ok=True)
+    os.mkfifo(path)
+    feeder = threading.Thread(target=feed)
+    feeder.start()
+    try:
+        yield
+    finally:
+        # If nobody has opened it, the feeder still waits for a reader.
+        os.close(os.open(path, os.O_RDONLY | os.O_NONBLOCK))
+        feeder.join()
+        os.remove(path)
+
+
+def run_once(tool, words, files, piped=None):
+    """Runs the program in a folder of its own, with a pipe in place of a file: status, both streams, and the files afterwards."""
     with tempfile.TemporaryDirectory(prefix="mutate-") as room:
         for name, contents in files.items():
-            cases.put(os.path.join(room, name), contents)
+            if name != piped:
+                cases.put(os.path.join(room, name), contents)
+        fed = pipe(os.path.join(room, piped), files[piped]) if piped else contextlib.nullcontext()
         try:
-            ran = subprocess.run([tool, *words], cwd=room, env={}, stdin=subprocess.DEVNULL, capture_output=True, timeout=SECONDS, check=False)
+            with fed:
+                ran = subprocess.run([tool, *words], cwd=room, env={}, stdin=subprocess.DEVNULL, capture_output=True, timeout=SECONDS, check=False)
         except subprocess.TimeoutExpired:
             return None
-        after = {}
+        after = {piped: files[piped]} if piped else {}
         for name in cases.files_below(room):
             with open(os.path.join(room, name), "rb") as file:
                 after[name] = file.read()
     return ran.returncode, ran.stdout, ran.stderr, after
 
 
-def fault_of(files, came, again):
+def places_named(name, words):
+    """The places of the words that name the file, alone or beside a kind or an address."""
+    return [place for place, word in enumerate(words) for part in re.split(rb"[@:]", word) if os.path.normpath(part) == os.fsencode(name)]
+
+
+def is_read_once(name, words):
+    """Whether the words name the file once, and as one that is read."""
+    places = places_named(name, words)
+    return len(places) == 1 and places[0] > (1 if words[0] in WITH_OUT else 0)
+
+
+def fault_of(files, came, again, by_pipe):
     """What is wrong with a run, or nothing."""
-    if came is None or again is None:
+    if None in (came, again, by_pipe):
         return f"has not ended after {SECONDS} seconds"
     status, _, errors, after = came
     if status not in range(8):
@@ -94,6 +137,8 @@ def fault_of(files, came, again):
         return f"changes files with status {status}"
     if came != again:
         return "comes to something else when it is run again"
+    if came != by_pipe:
+        return "comes to something else by a pipe"
     return None
 
 
@@ -111,8 +156,9 @@ def main(words):
         files, name = dict(case.files), chance.choice(sorted(case.files))
         files[name] = changed(chance, files[name])
         came, again = (run_once(tool, case.words, files) for _ in range(2))
+        by_pipe = run_once(tool, case.words, files, name) if is_read_once(name, case.words) else came
         runs += 1
-        fault = fault_of(files, came, again)
+        fault = fault_of(files, came, again, by_pipe)
         if fault:
             failed += 1
             kept = tempfile.mkdtemp(prefix=f"mutate-{seed}-{runs}-")
