@@ -14,7 +14,9 @@ pub struct SegmentNotes<'a> {
 impl<'a> SegmentNotes<'a> {
     ghost use Rattle.std.specs.Prelude.{◌≡◌, ◌<◌, ◌^◌, length};
     ghost use Rattle.std.specs.Iterator.{YieldsFirstBy};
+    ghost use Rattle.sf_bytes.specs.Cursor.{cursor};
     ghost use Rattle.elf_read.specs.Views.{file};
+    ghost use Rattle.core_notes.specs.Listing.{notes_from, whole_notes};
     ghost use Rattle.core_notes.specs.Note.{note_view};
     ghost use Rattle.core_notes.specs.SegmentNotes.{notes_left, segment_notes};
 
@@ -27,6 +29,13 @@ impl<'a> SegmentNotes<'a> {
         SegmentNotes {
             rest: note_bytes(elf, i),
         }
+    }
+
+    /// Returns the iterator over the notes that are these bytes of a segment.
+    pub fn of_part(rest: Part<'a>) -> SegmentNotes<'a>
+        ensures { notes_left result ≡ whole_notes (notes_from (cursor rest.entry)) }
+    {
+        SegmentNotes { rest }
     }
 
     // Takes the next note.

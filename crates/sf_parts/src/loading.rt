@@ -19,10 +19,14 @@ use sf_base::{Files, LoadFault, load, load_rest, read_part};
 use std::alloc::Global;
 
 /// A file of this many bytes or more is read whole.
-const MOST_BYTES: u64 = 1 << 32;
+pub const MOST_BYTES: u64 = 1 << 32;
 
-// Reads a window of the open file, and returns whether it was added to the parts.
-fn read_window<F: Files>(
+/// Reads a window of the open file, and returns whether it was added to the parts.
+///
+/// # Errors
+///
+/// `Read` if a call of `files` failed, and `NoMemory`.
+pub fn read_window<F: Files>(
     alloc: Global,
     files: &mut F,
     parts: &mut FileParts,
@@ -59,16 +63,22 @@ fn read_window<F: Files>(
     }
 }
 
-// Returns the bytes of the part that was read as the one of this number.
-fn bytes_of(parts: &FileParts, number: usize) -> &[u8] {
+/// Returns the bytes of the part that was read as the one of this number.
+pub fn bytes_of(parts: &FileParts, number: usize) -> &[u8] {
     match parts.parts.get(number) {
         Some(part) => &part.bytes,
         None => &[],
     }
 }
 
-// Reads the windows of the plan, and returns whether all were added to the parts.
-fn read_planned<F: Files>(
+/// Reads the file header, the section headers, their names and the first section with call frame information of the open
+/// file, and returns whether all were added to the parts, in this order. Nothing is stated of where they are: where that is
+/// wrong, the file doesn't pass as a linked one.
+///
+/// # Errors
+///
+/// `Read` if a call of `files` failed, and `NoMemory`.
+pub fn read_linked_parts<F: Files>(
     alloc: Global,
     files: &mut F,
     parts: &mut FileParts,
@@ -147,7 +157,7 @@ fn load_linked<F: Files>(
     ensures same { OnOk result (F.seen files.new ≡ F.seen files.old) }
 {
     let mut parts = FileParts::new(alloc, len);
-    if !read_planned(alloc, files, &mut parts)? {
+    if !read_linked_parts(alloc, files, &mut parts)? {
         return Ok(None);
     }
     Ok(linked(files, parts))

@@ -14,7 +14,9 @@ const EH_FRAME_TEXT: &[u8] = b".eh_frame\0";
 /// Where bytes of a file are: the place of the first, and how many there are.
 #[derive(Clone, Copy)]
 pub struct Window {
+    /// The place of the first.
     pub place: u64,
+    /// How many there are.
     pub size: u64,
 }
 

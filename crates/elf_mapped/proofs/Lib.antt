@@ -1,0 +1,4 @@
+mod Kept
+mod Named
+mod NoteParts
+mod Short
