@@ -33,7 +33,7 @@ impl PartialCore {
     ghost use Rattle.core_notes.specs.MemoryBytes as held;
     ghost use Rattle.core_notes.specs.MemoryBytes.{load_spans};
     ghost use Rattle.core_parts.specs.Heads.{head_span};
-    ghost use Rattle.core_parts.specs.Partial.{partial_file};
+    ghost use Rattle.core_parts.specs.Partial.{partial_file, parts_of_core};
     ghost use Rattle.core_parts.specs.Whole.{IsWholeOf};
     ghost use Rattle.elf_read.specs.Header as header;
     ghost use Rattle.sf_model.specs.Memory.{read_eight};
@@ -46,6 +46,7 @@ impl PartialCore {
         requires { IfSome ((F.seen files.now).contents) (λ _. IsWholeOf core.file (F.whole files.now)) }
         ensures known { IfSome ((F.seen files.now).contents) (λ _. partial_file result ≡ F.whole files.now) }
         ensures len { length (partial_file result) ≡ core.file.len }
+        ensures parts { parts_of_core result ≡ core.file.parts.items }
     {
         let whole = whole_of(files, &core.file);
         PartialCore { core, whole }

@@ -1,9 +1,10 @@
 //! Reads of parts of an open core file.
 
-ghost use Rattle.std.specs.Prelude.{◌≡◌, ℕ, List, Some, IsTrue, IsErrOf, IfSome, OnOk};
+ghost use Rattle.std.specs.Prelude.{◌≡◌, ◌+◌, ◌≤◌, ◌++◌, ◌∷◌, [], ℕ, List, Some, length, IsTrue, IsErrOf, IfOk, IfSome, OnErr, OnOk, if◌then◌else◌};
 ghost use Rattle.sf_base.specs.Faults.{Rose};
 ghost use Rattle.sf_base.specs.Seen.{OnlyReads};
 ghost use Rattle.sf_base.specs.declared.loading.LoadFault.TheVariants.{Read, TooLong};
+ghost use Rattle.core_parts.specs.Loaded.{parts_count};
 ghost use Rattle.core_parts.specs.Whole.{IsWholeOf};
 
 use crate::core_file::CoreParts;
@@ -17,11 +18,15 @@ use std::alloc::Global;
 
 /// How many bytes a block has. It begins at a multiple of this in its segment, and ends there or with the segment.
 pub const BLOCK: u64 = 1 << 16;
-/// How many bytes of a stack are read at first: a number of blocks.
-pub const STACK: u64 = 1 << 19;
+// How many bytes of a stack are read at first, at most: a number of blocks.
+const STACK: u64 = 1 << 19;
+// How many bytes of all stacks are read at first, at most, unless each has one block alone.
+const ALL_STACKS: u64 = 1 << 27;
+// How many times as many bytes as a part has are read after it, if they are wanted: a few reads suffice for a deep stack.
+const GROWTH: u64 = 4;
 // How many times a segment or a part is looked at, at most, to find all addresses: else reading the whole file is as fast.
 const LOOKS: u64 = 1 << 24;
-// The most mapped files of which the first page is read at first.
+// How many mapped files have their first page read at the start, at most.
 const MAPPED_FILES: u64 = 1 << 12;
 // The note on mapped files: how many bytes are before its entries, how many each has, and where in it its offset is.
 const NOTE_HEADER_LEN: u64 = 16;
@@ -39,34 +44,59 @@ pub struct Window {
     pub size: u64,
 }
 
-// Returns the block of a segment that has an address and the blocks after it, up to `most` bytes.
-fn blocks_of(head: &SegmentHead, address: u64, most: u64) -> Option<Window> {
-    let skip = address.checked_sub(head.vaddr)? / BLOCK * BLOCK;
-    let left = head.size.checked_sub(skip)?;
-    Some(Window {
-        place: head.place.checked_add(skip)?,
-        size: left.min(most),
-    })
+// Returns where the eight bytes from an address on are in the file, by the first segment that has them.
+fn place_at(heads: &[SegmentHead], address: u64) -> Option<u64> {
+    let head = heads.iter().find(|head| head_holds(head, address, 8))?;
+    head.place.checked_add(address.checked_sub(head.vaddr)?)
 }
 
 // Returns the blocks of the first segment that has the eight bytes from an address on: the one of these bytes and those after
-// it, up to `most` bytes. Nothing is stated: what is read is a part of the file, whichever it is.
-fn blocks_at(heads: &[SegmentHead], address: u64, most: u64) -> Option<Window> {
+// it. Nothing is stated: what is read is a part of the file, whichever it is.
+fn blocks_at(heads: &[SegmentHead], address: u64) -> Option<Window> {
     let head = heads.iter().find(|head| head_holds(head, address, 8))?;
-    blocks_of(head, address, most)
+    let skip = address.checked_sub(head.vaddr)? / BLOCK * BLOCK;
+    Some(Window {
+        place: head.place.checked_add(skip)?,
+        size: head.size.checked_sub(skip)?,
+    })
 }
 
-/// Reads a window of the open file, and returns whether it was added to the parts that were read of it.
+// Adds a part, of which at most `left` bytes may be read, and returns whether it was added.
+fn add_part(
+    parts: &mut FileParts,
+    left: &mut u64,
+    place: u64,
+    bytes: Vec<u8>,
+) -> Result<bool, NoMemory>
+    requires { length bytes.items ≤ left.old }
+    ensures counted { OnOk result (parts_count parts.new.parts.items + left.new ≡ parts_count parts.old.parts.items + left.old) }
+    ensures len { parts.new.len ≡ parts.old.len }
+    ensures parts { IfOk result (λ added. parts.new.parts.items
+        ≡ (if added then parts.old.parts.items ++ (record { place = place; bytes = bytes }) ∷ [] else parts.old.parts.items)) }
+    ensures kept { OnErr result (parts.new.parts.items ≡ parts.old.parts.items) }
+{
+    let size = bytes.len() as u64;
+    let added = parts.add(place, bytes)?;
+    if added {
+        *left -= size;
+    }
+    Ok(added)
+}
+
+/// Reads a window of the open file, of which `left` more bytes may be read, and returns whether it was added to the parts that
+/// were read of it.
 pub fn read_window<F: Files>(
     alloc: Global,
     files: &mut F,
     parts: &mut FileParts,
+    left: &mut u64,
     window: Window,
 ) -> Result<bool, LoadFault>
     requires opened { IsTrue (F.opened files.old) }
     requires whole { IfSome ((F.seen files.old).contents) (λ _. IsWholeOf parts.old (F.whole files.old)) }
     ensures whole { OnOk result (IfSome ((F.seen files.old).contents) (λ _. IsWholeOf parts.new (F.whole files.old))) }
     ensures kept { (whole : List ℕ) → IsWholeOf parts.new whole → IsWholeOf parts.old whole }
+    ensures counted { OnOk result (parts_count parts.new.parts.items + left.new ≡ parts_count parts.old.parts.items + left.old) }
     ensures len { parts.new.len ≡ parts.old.len }
     ensures same_file { OnOk result (F.whole files.new ≡ F.whole files.old) }
     ensures opened { OnOk result (IsTrue (F.opened files.new)) }
@@ -82,19 +112,50 @@ pub fn read_window<F: Files>(
     ensures same { OnOk result (F.seen files.new ≡ F.seen files.old) }
 {
     // No seek goes past the end, which some machines refuse.
-    if window.place > parts.len || window.size > parts.len - window.place {
+    if window.place > parts.len || window.size > parts.len - window.place || window.size > *left {
         return Ok(false);
     }
     match read_part(alloc, files, window.place, window.size as usize)? {
         None => Ok(false),
-        Some(bytes) => Ok(parts.add(window.place, bytes)?),
+        Some(bytes) => Ok(add_part(parts, left, window.place, bytes)?),
     }
 }
 
-// Returns whether a part has some of a window.
-fn overlaps(part: &FilePart, window: Window) -> bool {
-    u128::from(part.place) < u128::from(window.place) + u128::from(window.size)
-        && u128::from(window.place) < u128::from(part.place) + part.bytes.len() as u128
+// Returns the place after a part's last byte.
+fn end_of(part: &FilePart) -> u64 {
+    part.place.saturating_add(part.bytes.len() as u64)
+}
+
+// Returns whether one of the parts has the eight bytes from a place on.
+fn any_has(parts: &[FilePart], place: u64) -> bool {
+    parts.iter().any(|part| part.place <= place && place.saturating_add(8) <= end_of(part))
+}
+
+// Returns how many bytes lie between a place and the next part, or 0 if a part has the byte at the place.
+fn gap_at(parts: &[FilePart], place: u64) -> u64 {
+    let mut end = u64::MAX;
+    for part in parts {
+        if place < end_of(part) {
+            end = end.min(part.place);
+        }
+    }
+    end.saturating_sub(place)
+}
+
+// Returns how many bytes are wanted from a place on: a block, or more after a part that ends there.
+fn wanted_size(parts: &[FilePart], place: u64) -> u64 {
+    match parts.iter().find(|part| end_of(part) == place) {
+        Some(part) => GROWTH.saturating_mul(part.bytes.len() as u64).max(BLOCK),
+        None => BLOCK,
+    }
+}
+
+/// Returns how many bytes of each stack are read at first, if there is this number of threads.
+pub fn stack_size(threads: usize) -> u64 {
+    match ALL_STACKS.checked_div(threads as u64) {
+        Some(each) => (each / BLOCK * BLOCK).min(STACK).max(BLOCK),
+        None => BLOCK,
+    }
 }
 
 /// Returns whether it takes little time to read blocks at this number of addresses of a file with this number of segments: for each
@@ -130,19 +191,40 @@ pub fn file_addresses(alloc: Global, note: Option<&FilePart>) -> Result<Vec<u64>
 }
 
 impl CoreParts {
-    // Reads of the open file, which has to be this core file, the block of a segment that has the eight bytes from an address
-    // on and those after it, up to `most` bytes, and returns whether they were read: no segment may have them, or some were read
-    // before.
+    // Returns the window to read for the eight bytes from an address on. It is empty if the first of them was read before.
+    fn window_at(&self, address: u64, most: Option<u64>) -> Option<Window> {
+        let blocks = blocks_at(&self.head.heads, address)?;
+        let parts = &self.file.parts;
+        let most = most.unwrap_or(wanted_size(parts, blocks.place));
+        Some(Window {
+            place: blocks.place,
+            size: blocks.size.min(most).min(gap_at(parts, blocks.place)),
+        })
+    }
+
+    // Returns whether the eight bytes from an address on were read.
+    fn has_read(&self, address: u64) -> bool {
+        match place_at(&self.head.heads, address) {
+            Some(place) => any_has(&self.file.parts, place),
+            None => false,
+        }
+    }
+
+    // Reads of the open file, which has to be this core file and of which `left` more bytes may be read, the block of a segment
+    // that has the eight bytes from an address on and those after it, up to a part that was read before: `most` bytes at
+    // most, or as many as are wanted there. Returns whether the eight bytes were read, now or before: no segment may have them.
     fn read_blocks_at<F: Files>(
         &mut self,
         alloc: Global,
         files: &mut F,
+        left: &mut u64,
         address: u64,
-        most: u64,
+        most: Option<u64>,
     ) -> Result<bool, LoadFault>
         requires opened { IsTrue (F.opened files.old) }
         requires whole { IfSome ((F.seen files.old).contents) (λ _. IsWholeOf self.old.file (F.whole files.old)) }
         ensures whole { OnOk result (IfSome ((F.seen files.old).contents) (λ _. IsWholeOf self.new.file (F.whole files.old))) }
+        ensures counted { OnOk result (parts_count self.new.file.parts.items + left.new ≡ parts_count self.old.file.parts.items + left.old) }
         ensures len { self.new.file.len ≡ self.old.file.len }
         ensures same_file { OnOk result (F.whole files.new ≡ F.whole files.old) }
         ensures opened { OnOk result (IsTrue (F.opened files.new)) }
@@ -157,18 +239,18 @@ impl CoreParts {
         ensures reads { OnlyReads (F.seen files.old) (F.seen files.new) }
         ensures same { OnOk result (F.seen files.new ≡ F.seen files.old) }
     {
-        let Some(window) = blocks_at(&self.head.heads, address, most) else {
+        let Some(window) = self.window_at(address, most) else {
             return Ok(false);
         };
-        if self.file.parts.iter().any(|part| overlaps(part, window)) {
-            return Ok(false);
+        if window.size == 0 {
+            return Ok(self.has_read(address));
         }
-        read_window(alloc, files, &mut self.file, window)
+        read_window(alloc, files, &mut self.file, left, window)
     }
 
-    /// Reads of the open file, which has to be this core file, the blocks of segments that have the eight bytes from each of
-    /// these addresses on and those after them, up to `most` bytes, and returns whether all were read: no segment may have
-    /// them, or some were read before.
+    /// Reads of the open file, which has to be this core file and of which `left` more bytes may be read, the blocks of
+    /// segments that have the eight bytes from each of these addresses on and those after them, up to parts that were read
+    /// before: `most` bytes at most, or as many as are wanted there. Returns whether the eight bytes of each were read.
     ///
     /// # Errors
     ///
@@ -177,12 +259,14 @@ impl CoreParts {
         &mut self,
         alloc: Global,
         files: &mut F,
+        left: &mut u64,
         addresses: &[u64],
-        most: u64,
+        most: Option<u64>,
     ) -> Result<bool, LoadFault>
         requires opened { IsTrue (F.opened files.old) }
         requires whole { IfSome ((F.seen files.old).contents) (λ _. IsWholeOf self.old.file (F.whole files.old)) }
         ensures whole { OnOk result (IfSome ((F.seen files.old).contents) (λ _. IsWholeOf self.new.file (F.whole files.old))) }
+        ensures counted { OnOk result (parts_count self.new.file.parts.items + left.new ≡ parts_count self.old.file.parts.items + left.old) }
         ensures len { self.new.file.len ≡ self.old.file.len }
         ensures same_file { OnOk result (F.whole files.new ≡ F.whole files.old) }
         ensures opened { OnOk result (IsTrue (F.opened files.new)) }
@@ -199,7 +283,7 @@ impl CoreParts {
     {
         let mut all = true;
         for address in addresses {
-            if !self.read_blocks_at(alloc, files, *address, most)? {
+            if !self.read_blocks_at(alloc, files, left, *address, most)? {
                 all = false;
             }
         }

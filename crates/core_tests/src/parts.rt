@@ -1,11 +1,12 @@
 //! Core files in memory that are read by parts, and which parts these are: no clause says it.
 
-ghost use Rattle.std.specs.Prelude.{◌<◌, ◌^◌, IfOk, length};
+ghost use Rattle.std.specs.Prelude.{◌<◌, ◌≤◌, ◌^◌, IfOk, length};
 ghost use Rattle.core_parts.specs.Loaded.{core_read_bytes};
 
 use crate::files::{TWO_THREADS, bytes_of};
-use base_tests::tables::{number, prints, put, row};
+use base_tests::tables::{expect, number, prints, put, row};
 use core_parts::{CoreInput, CoreRead, InputMap, Wanted, load_core};
+use sf_base::LoadFault;
 use sf_fakes::MemFiles;
 use std::alloc::Global;
 use std::test::*;
@@ -31,7 +32,7 @@ const FOUND: &str = "
 pub fn load(alloc: Global, files: &mut MemFiles, wanted: Wanted<'_>) -> Result<CoreRead, Fail>
     ensures { IfOk result (λ read. length (core_read_bytes read) < 2 ^ 32) }
 {
-    match load_core(alloc, files, "core", 1 << 20, wanted) {
+    match load_core(alloc, files, "core", 1 << 20, 1 << 20, wanted) {
         Ok(read) => Ok(read),
         Err(_) => Err("load".into()),
     }
@@ -85,4 +86,40 @@ fn stacks_are_read_by_blocks(rt: HostRuntime) -> Result<(), Fail> {
         }
     }
     Ok(())
+}
+
+/// Loads a core file that may have `limit` bytes, of which at most `most` are read, and says how it was read.
+fn read_as(
+    alloc: Global,
+    files: &mut MemFiles,
+    limit: u64,
+    most: u64,
+    wanted: Wanted<'_>,
+) -> &'static str
+    requires { most ≤ limit }
+{
+    match load_core(alloc, files, "core", limit, most, wanted) {
+        Ok(CoreRead::Parts(_)) => "parts",
+        Ok(CoreRead::Whole(_)) => "whole",
+        Err(LoadFault::TooLong(_)) => "too long",
+        Err(_) => "fault",
+    }
+}
+
+#[test]
+fn a_core_file_may_have_more_bytes_than_are_read(rt: HostRuntime) -> Result<(), Fail> {
+    let alloc = rt.alloc();
+    // It has 0x30378 bytes, 0x20000 of which are from the stack pointer's block on.
+    let mut files = files_of(alloc, three_blocks(alloc)?)?;
+    let (all, stack) = (1 << 20, 0x21000);
+    let read = read_as(alloc, &mut files, all, stack, Wanted::Memory(&[]));
+    expect("its stacks", read, "parts")?;
+    let read = read_as(alloc, &mut files, all, stack, Wanted::Memory(&[0x7000]));
+    expect("all its memory", read, "too long")?;
+    let read = read_as(alloc, &mut files, all, 0x30377, Wanted::Whole);
+    expect("a byte less than all", read, "too long")?;
+    let read = read_as(alloc, &mut files, all, 0x30378, Wanted::Whole);
+    expect("all its bytes", read, "whole")?;
+    let read = read_as(alloc, &mut files, 0x30377, stack, Wanted::Memory(&[]));
+    expect("more bytes than it may have", read, "too long")
 }

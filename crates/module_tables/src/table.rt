@@ -1,8 +1,10 @@
 //! The section and the signal frames of one file.
 
 ghost use Rattle.std.specs.Prelude.{◌≡◌, ◌<◌, ◌^◌, [], ◌∷◌, None, length, IfOk, IfErr, IsTrue};
+ghost use Rattle.sf_model.specs.declared.form.Form.TheVariants.{Elf};
 ghost use Rattle.sf_model.specs.Section.{AreBytes};
 ghost use Rattle.sf_asm.specs.Fault.{is_answered};
+ghost use Rattle.sf_asm.specs.Functions.{bytes_of, form_of};
 ghost use Rattle.sf_plt.specs.Answers.{IsFirstPltLinked};
 ghost use Rattle.module_tables.specs.Table.{IsModuleTable, file_at};
 
@@ -23,7 +25,8 @@ pub struct ModuleTable {
     pub signals: Vec<Span<SignalFrame>>,
 }
 
-/// Makes the table of an ELF file that was mapped `base` up, with a section for the address `at`.
+/// Makes the table of an ELF file that was mapped `base` up, with a section for the address `at`. An executable or a shared
+/// object may be given by its parts.
 ///
 /// # Errors
 ///
@@ -33,22 +36,20 @@ pub struct ModuleTable {
 /// never differ, since the file is the only item.
 pub fn module_table(
     alloc: Global,
-    file: &[u8],
+    file: InputBytes<'_>,
     base: u64,
     at: u64,
 ) -> Result<ModuleTable, LinkFault>
-    requires { length file.now < 2 ^ 32 }
+    requires form { form_of file ≡ Elf }
+    requires small { length (bytes_of file) < 2 ^ 32 }
     // The section is that of the file's functions at the base, and the signal frames are those of the others.
-    ensures table { IfOk result (λ table. IsModuleTable file.now base at table.section.items table.signals.items) }
+    ensures table { IfOk result (λ table. IsModuleTable (bytes_of file.entry) base at table.section.items table.signals.items) }
     ensures are_bytes { IfOk result (λ table. AreBytes table.section.items) }
     // A fault is the first one.
-    ensures fault { IfErr result (IsFirstPltLinked None (file_at file.now base ∷ []) at) }
+    ensures fault { IfErr result (IsFirstPltLinked None (file_at (bytes_of file.entry) base ∷ []) at) }
     ensures answered { IfErr result (λ fault. IsTrue (is_answered fault)) }
 {
-    let input = Input {
-        bytes: InputBytes::File(file),
-        base,
-    };
+    let input = Input { bytes: file, base };
     let made = link_plt_with_sources(alloc, &[input], at, None)?;
     match signals_of(alloc, &made.sources) {
         Ok(signals) => Ok(ModuleTable {

@@ -1,7 +1,7 @@
 -- Mapped files with their bytes, one after the other, and what their modules come to.
 use Rattle.std.specs.List.{All, AllZip, position, position_or_len, zip}
 use Rattle.std.specs.Prelude.{nat_lt}
-use Rattle.std.proofs.Common.{◌≡◌, ℕ, ◌+◌, ◌<◌, ◌^◌, Bool, true, not, cond, List, [], ◌∷◌, map, length, drop, get_or, Option, Some, None, Result, Ok, Err, refl, ap, sym, subst, ◌∙◌, ◌⊎◌, inl, inr, arith}
+use Rattle.std.proofs.Common.{◌≡◌, ℕ, ◌+◌, ◌<◌, ◌^◌, Bool, true, not, cond, List, [], ◌∷◌, map, length, drop, Option, Some, None, Result, Ok, Err, refl, ap, sym, subst, ◌∙◌, ◌⊎◌, inl, inr, arith}
 use Rattle.std.proofs.lemmas.List.{length-map}
 use Rattle.std.proofs.lemmas.List.Elements.{All-nil, All-cons}
 use Rattle.elf_read.specs.Header.{arch_of}
@@ -71,18 +71,18 @@ files_short item total (n ∷ ns) (bytes ∷ items) count h =
     let here = within_both item total (Mapped n) bytes rest h in
     All-cons IsShort bytes items (omega (arith, here.0)) (files_short (item + 1) (total + length bytes) ns items (omega (arith, count)) (sym (goes_on item total (Mapped n) bytes rest here.0 here.1) ∙ h))
 
--- the core file is short, and so are those after it
-pub all_short : (name core : List ℕ) (names items : List (List ℕ)) → length items ≡ length names → items_limit (Core name ∷ map Mapped names) (core ∷ items) ≡ None → IsShort core × All IsShort items
+-- the files after a core file are short
+pub all_short : (name core : List ℕ) (names items : List (List ℕ)) → length items ≡ length names → items_limit (Core name ∷ map Mapped names) (core ∷ items) ≡ None → All IsShort items
 all_short name core names items count h =
     let rest = zip (map Mapped names) items in
     let here = within_both 0 0 (Core name) core rest h in
-    (omega (arith, here.0), files_short _ _ names items count (sym (goes_on 0 0 (Core name) core rest here.0 here.1) ∙ h))
+    files_short _ _ names items count (sym (goes_on 0 0 (Core name) core rest here.0 here.1) ∙ h)
 
--- the first file that was loaded, a core file, is short, and so are those after it
-pub loaded_short : (name : List ℕ) (names : List (List ℕ)) (loaded : List Loaded) (d : Loaded) → loaded_items loaded ≡ Core name ∷ map Mapped names → items_limit (Core name ∷ map Mapped names) (loaded_bytes loaded) ≡ None
-    → IsShort (read_bytes (get_or loaded 0 d).read) × All IsShort (loaded_bytes (drop 1 loaded))
-loaded_short name names [] d h limit = let none : ⊥ = cc in absurd none
-loaded_short name names (l ∷ ls) d h limit =
+-- the files that were loaded after a core file are short
+pub loaded_short : (name : List ℕ) (names : List (List ℕ)) (loaded : List Loaded) → loaded_items loaded ≡ Core name ∷ map Mapped names → items_limit (Core name ∷ map Mapped names) (loaded_bytes loaded) ≡ None
+    → All IsShort (loaded_bytes (drop 1 loaded))
+loaded_short name names [] h limit = let none : ⊥ = cc in absurd none
+loaded_short name names (l ∷ ls) h limit =
     let later : loaded_items ls ≡ map Mapped names = cc in
     let count : length (loaded_bytes ls) ≡ length names = length-map ls (λ (l : Loaded). read_bytes l.read) ∙ as_many ls (map Mapped names) later ∙ length-map names Mapped in
     all_short name (read_bytes l.read) names (loaded_bytes ls) count limit

@@ -102,7 +102,7 @@ fn modules_of<'a, 'p, 'm>(
         };
         let item = modules.len() as u32 + 1;
         let word = name.as_bytes();
-        let bytes = file.bytes();
+        let bytes = file.mapped();
         match read_module_once(process, &read, word, bytes) {
             Ok(module) => {
                 modules.push(module)?;
@@ -229,7 +229,7 @@ fn procwalk_made<'a, 'm>(
 ) -> Result<Made<'m>, Unmade<'a>>
     requires items { loaded_items files.now ≡ map Mapped (map string_bytes names.now) }
     requires few { length files.now ≤ 512 }
-    requires short { length (core_read_bytes core.now) < 2 ^ 32 }
+    requires short { is_whole core.now ≡ true → length (core_read_bytes core.now) < 2 ^ 32 }
     requires small { All (λ bytes. length bytes < 2 ^ 32) (loaded_bytes files.now) }
     ensures comes { MadeAs (ProcessComes (core_read_bytes core.now) (ProcwalkComesIn depth (zip (map string_bytes names.now) (loaded_bytes files.now))) (core_check (core_read_bytes core.now))) result }
     ensures whole { is_whole core.now ≡ true → NeedsNoMore result }

@@ -40,7 +40,7 @@ fn walk_made<'a, 'm>(
     core: &CoreRead,
     depth: u32,
 ) -> Result<Made<'m>, Unmade<'a>>
-    requires { length (core_read_bytes core.now) < 2 ^ 32 }
+    requires { is_whole core.now ≡ true → length (core_read_bytes core.now) < 2 ^ 32 }
     ensures comes { MadeAs (WalkComesFrom at section.now (core_read_bytes core.now) depth (section_check section.now at) (core_check (core_read_bytes core.now))) result }
     ensures whole { is_whole core.now ≡ true → NeedsNoMore result }
 {

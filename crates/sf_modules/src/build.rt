@@ -1,9 +1,9 @@
 //! Whether a file is the build that a process had (GNU NT_GNU_BUILD_ID).
 
-ghost use Rattle.std.specs.Prelude.{◌≡◌, ◌<◌, ◌^◌, ◌||◌, true, length, not, IfErr, IfOk};
+ghost use Rattle.std.specs.Prelude.{◌≡◌, ◌<◌, ◌||◌, true, not, IfErr, IfOk};
 ghost use Rattle.std.specs.List.{list_all, list_any, range_with_len};
 ghost use Rattle.elf_read.specs.Sections.{segment_total};
-ghost use Rattle.elf_read.specs.Views.{file};
+ghost use Rattle.elf_mapped.specs.Program.{program_bytes};
 ghost use Rattle.core_notes.specs.Note.{note_view};
 ghost use Rattle.core_notes.specs.SegmentNotes.{segment_notes};
 ghost use Rattle.elf_load.specs.BuildId.{is_build_id};
@@ -12,9 +12,9 @@ ghost use Rattle.sf_modules.specs.Build as spec;
 
 use crate::file::Program;
 use crate::layout::{GNU, NT_GNU_BUILD_ID, PT_LOAD};
-use core_notes::{Note, SegmentNotes};
+use core_notes::Note;
 use core_parts::{InputMap, Unread};
-use elf_read::Elf;
+use elf_mapped::ProgramFile;
 
 // Returns whether a note is a build identifier.
 #[tactic(auto, unfolding(core_notes::specs::Thread::has_name_and_type))]
@@ -25,8 +25,10 @@ fn is_build_id(note: &Note<'_>) -> bool
 }
 
 // Returns whether the addresses of one segment are some of another, which is loaded.
-fn is_within(elf: &Elf<'_>, i: u32, k: u32) -> bool
-    ensures { result ≡ spec.is_within (file elf.now) i k }
+fn is_within(elf: &ProgramFile<'_>, i: u32, k: u32) -> bool
+    requires inner { i < segment_total (program_bytes elf.now) }
+    requires outer { k < segment_total (program_bytes elf.now) }
+    ensures { result ≡ spec.is_within (program_bytes elf.now) i k }
 {
     let inner = elf.segment(i);
     let outer = elf.segment(k);
@@ -38,7 +40,8 @@ fn is_within(elf: &Elf<'_>, i: u32, k: u32) -> bool
 
 // Returns whether a segment is loaded with another.
 fn is_loaded(program: &Program<'_>, i: u32) -> bool
-    ensures { result ≡ spec.is_within_any (file program.now.elf) i }
+    requires { i < program.now.count }
+    ensures { result ≡ spec.is_within_any (program_bytes program.now.elf) i }
 {
     for k in 0..program.count {
         if is_within(&program.elf, i, k) {
@@ -53,12 +56,13 @@ fn is_loaded(program: &Program<'_>, i: u32) -> bool
 #[tactic(auto, unfolding(crate::specs::Build::descriptor_agrees))]
 fn descriptor_agrees(
     memory: &InputMap<'_>,
-    elf: &Elf<'_>,
+    elf: &ProgramFile<'_>,
     base: u64,
     i: u32,
     note: &Note<'_>,
 ) -> Result<bool, Unread>
-    ensures agrees { IfOk result (λ agrees. agrees ≡ spec.descriptor_agrees (map_file memory.now) (file elf.now) base i (note_view note.now)) }
+    requires { i < segment_total (program_bytes elf.now) }
+    ensures agrees { IfOk result (λ agrees. agrees ≡ spec.descriptor_agrees (map_file memory.now) (program_bytes elf.now) base i (note_view note.now)) }
     ensures unread { IfErr result (λ unread. is_map_of_parts memory.now ≡ true) }
 {
     let id = note.descriptor.bytes;
@@ -77,12 +81,13 @@ fn descriptor_agrees(
 // Returns whether a note is no build identifier or agrees.
 fn note_agrees(
     memory: &InputMap<'_>,
-    elf: &Elf<'_>,
+    elf: &ProgramFile<'_>,
     base: u64,
     i: u32,
     note: &Note<'_>,
 ) -> Result<bool, Unread>
-    ensures agrees { IfOk result (λ agrees. agrees ≡ spec.note_agrees (map_file memory.now) (file elf.now) base i (note_view note.now)) }
+    requires { i < segment_total (program_bytes elf.now) }
+    ensures agrees { IfOk result (λ agrees. agrees ≡ spec.note_agrees (map_file memory.now) (program_bytes elf.now) base i (note_view note.now)) }
     ensures unread { IfErr result (λ unread. is_map_of_parts memory.now ≡ true) }
 {
     if is_build_id(note) {
@@ -93,12 +98,17 @@ fn note_agrees(
 }
 
 // Returns whether each note of a segment is no build identifier or agrees.
-fn notes_agree(memory: &InputMap<'_>, elf: &Elf<'_>, base: u64, i: u32) -> Result<bool, Unread>
-    requires { length (file elf.now) < 2 ^ 32 }
-    ensures agrees { IfOk result (λ agrees. agrees ≡ list_all (spec.note_agrees (map_file memory.now) (file elf.now) base i) (segment_notes (file elf.now) i)) }
+fn notes_agree(
+    memory: &InputMap<'_>,
+    elf: &ProgramFile<'_>,
+    base: u64,
+    i: u32,
+) -> Result<bool, Unread>
+    requires { i < segment_total (program_bytes elf.now) }
+    ensures agrees { IfOk result (λ agrees. agrees ≡ list_all (spec.note_agrees (map_file memory.now) (program_bytes elf.now) base i) (segment_notes (program_bytes elf.now) i)) }
     ensures unread { IfErr result (λ unread. is_map_of_parts memory.now ≡ true) }
 {
-    for note in SegmentNotes::new(elf, i) {
+    for note in elf.notes(i) {
         if !note_agrees(memory, elf, base, i, &note)? {
             return Ok(false);
         }
@@ -114,8 +124,8 @@ fn segment_agrees(
     base: u64,
     i: u32,
 ) -> Result<bool, Unread>
-    requires { length (file program.now.elf) < 2 ^ 32 }
-    ensures agrees { IfOk result (λ agrees. agrees ≡ spec.segment_agrees (map_file memory.now) (file program.now.elf) base i) }
+    requires { i < program.now.count }
+    ensures agrees { IfOk result (λ agrees. agrees ≡ spec.segment_agrees (map_file memory.now) (program_bytes program.now.elf) base i) }
     ensures unread { IfErr result (λ unread. is_map_of_parts memory.now ≡ true) }
 {
     Ok(notes_agree(memory, &program.elf, base, i)? || !is_loaded(program, i))
@@ -130,8 +140,7 @@ pub fn is_same_build(
     program: &Program<'_>,
     base: u64,
 ) -> Result<bool, Unread>
-    requires { length (file program.now.elf) < 2 ^ 32 }
-    ensures agrees { IfOk result (λ agrees. agrees ≡ spec.is_same_build (map_file memory.now) (file program.now.elf) base) }
+    ensures agrees { IfOk result (λ agrees. agrees ≡ spec.is_same_build (map_file memory.now) (program_bytes program.now.elf) base) }
     ensures unread { IfErr result (λ unread. is_map_of_parts memory.now ≡ true) }
 {
     for i in 0..program.count {

@@ -1,8 +1,5 @@
 //! The numbers of the formats, by the standards' names (ELF64 gABI; Linux core files, NT_FILE).
 
-/// The name of the SFrame section.
-pub const SFRAME: &[u8] = b".sframe";
-
 /// The type of a segment that is loaded.
 pub const PT_LOAD: u32 = 1;
 

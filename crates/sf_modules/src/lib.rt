@@ -12,6 +12,8 @@
 //! build identifier has to be compared with a part of the memory that was not read, the file is refused as
 //! [`ModuleFault::Unread`], with an address of that part.
 //!
+//! Each file may have been read by parts ([`elf_mapped::MappedBytes`]). The clauses are about all its bytes.
+//!
 //! The meaning is a list of entries and a list of modules: at an address the first entry that holds it says which file is
 //! there, and the first module of that name answers by its own table (`found_in` of `specs/Found.antt`). A walk is
 //! `look_up_walk` of `sf_model` over that. [`modules_answer_as_their_union`] is a law: where each address of a function
@@ -22,9 +24,9 @@
 //! allocate nothing. They go over the entries whose names have the word's last part, three times. For each of a nearest
 //! name that has the first loaded segment's place they try the segment at which the file didn't fit the entry before, and,
 //! where it fits there, go over the file's program headers, with two searches by halves for each loaded one.
-//! [`read_module_once`] does this once for a file that is given again. `Modules::new` takes the time of a sort of the
-//! entries, and of the functions of each section that doesn't say to be sorted; an address is then found by two searches
-//! by halves.
+//! [`read_module_once`] does this once for a file that is given again, if the file was read whole. `Modules::new` takes the
+//! time of a sort of the entries, and of the functions of each section that doesn't say to be sorted; an address is then
+//! found by two searches by halves.
 #![tactic(auto)]
 
 mod build;

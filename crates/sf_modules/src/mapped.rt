@@ -1,8 +1,9 @@
 //! A file that a process had mapped, with its SFrame section.
 
-ghost use Rattle.std.specs.Prelude.{◌≡◌, ◌<◌, ◌^◌, ℕ, true, IfOk, IsErrOf, length};
+ghost use Rattle.std.specs.Prelude.{◌≡◌, ◌<◌, ◌^◌, ℕ, true, Some, IfOk, IsErrOf, length};
 ghost use Rattle.elf_read.specs.Sections.{section_fields};
-ghost use Rattle.elf_read.specs.Views.{file};
+ghost use Rattle.elf_mapped.specs.Program.{all_bytes, program_bytes};
+ghost use Rattle.elf_mapped.specs.Sframe.{sframe_section};
 ghost use Rattle.sf_modules.specs.declared.fault.ModuleFault.TheVariants.{NoMemory, Unread};
 ghost use Rattle.sf_modules.specs.Fault.{FollowsCheck};
 ghost use Rattle.sf_modules.specs.Fit.{process_address};
@@ -14,7 +15,7 @@ use crate::fault::ModuleFault;
 use crate::file::{check_kind, section_of};
 use crate::place::place_of;
 use crate::process::Process;
-use elf_read::Elf;
+use elf_mapped::{MappedBytes, ProgramFile};
 use sf_decode::View;
 use sf_model::Arch;
 
@@ -31,10 +32,11 @@ pub struct Module<'c, 'a> {
 }
 
 // Returns the address at which a section was.
-fn address_of(base: u64, elf: &Elf<'_>, section: u32) -> u64
-    ensures { result ≡ process_address base (section_fields (file elf.now) section).sh_addr }
+fn address_of(base: u64, elf: &ProgramFile<'_>, section: u32) -> u64
+    requires { sframe_section (program_bytes elf.now) ≡ Some section }
+    ensures { result ≡ process_address base (section_fields (program_bytes elf.now) section).sh_addr }
 {
-    base.wrapping_add(elf.section(section).addr)
+    base.wrapping_add(elf.sframe_address(section))
 }
 
 /// Reads the module of a file for which this word is given. Among the process's entries whose names have most parts in
@@ -53,21 +55,24 @@ fn address_of(base: u64, elf: &Elf<'_>, section: u32) -> u64
 pub fn read_module<'p, 'a>(
     process: &Process<'p>,
     word: &[u8],
-    bytes: &'a [u8],
+    bytes: MappedBytes<'a>,
 ) -> Result<Module<'p, 'a>, ModuleFault>
-    requires { length bytes.now < 2 ^ 32 }
+    requires { length (all_bytes bytes) < 2 ^ 32 }
     // What was read is the module of the file.
-    ensures sound { IfOk result (λ m. IsModule (process_view process.now) word.now bytes.now (module_view m)) }
+    ensures sound { IfOk result (λ m. IsModule (process_view process.now) word.now (all_bytes bytes.entry) (module_view m)) }
     // It is read exactly where no check fails; else the fault is that of the first that does, unless a part wasn't read.
-    ensures exact { FollowsCheck (module_check (process_view process.now) word.now bytes.now) result }
+    ensures exact { FollowsCheck (module_check (process_view process.now) word.now (all_bytes bytes.entry)) result }
     ensures unread { (address : ℕ) → IsErrOf result (ModuleFault.Unread address) → is_process_of_parts process.now ≡ true }
     ensures memory { IsErrOf result ModuleFault.NoMemory → ⊥ }
 {
-    let elf = Elf::parse(bytes)?;
+    let elf = ProgramFile::parse(bytes)?;
     check_kind(&elf)?;
     let section = section_of(&elf)?;
-    let mapped = place_of(process, word, bytes, &elf)?;
-    let view = View::parse(elf.bytes(section), address_of(mapped.base, &elf, section))?;
+    let mapped = place_of(process, word, &elf)?;
+    let view = View::parse(
+        elf.sframe_bytes(section),
+        address_of(mapped.base, &elf, section),
+    )?;
     Ok(Module {
         name: mapped.entry.name,
         machine: mapped.machine,

@@ -3,7 +3,7 @@
 ghost use Rattle.std.specs.Prelude.{◌≡◌, IfOk, Some, map};
 ghost use Rattle.std.specs.List.{find, list_any};
 ghost use Rattle.std.specs.Option.{option_map};
-ghost use Rattle.elf_read.specs.Views.{file};
+ghost use Rattle.elf_mapped.specs.Program.{program_bytes};
 ghost use Rattle.sf_modules.specs.Candidates.{candidates};
 ghost use Rattle.sf_modules.specs.Entry.{mapping_view};
 ghost use Rattle.sf_modules.specs.Fault.{OnlyRefuses, verdict};
@@ -45,7 +45,7 @@ fn matches(
     misfit: &mut u32,
     entry: &Entry<'_>,
 ) -> bool
-    ensures { result ≡ spec.matches (process_view process.now) word.now (file program.now.elf) program.now.load tail (mapping_view entry.now) }
+    ensures { result ≡ spec.matches (process_view process.now) word.now (program_bytes program.now.elf) program.now.load tail (mapping_view entry.now) }
 {
     common_tail(word, entry.name) == tail && fits(process, program, misfit, entry)
 }
@@ -57,7 +57,7 @@ fn first_match<'p>(
     tail: u128,
     program: &Program<'_>,
 ) -> Option<&'p Entry<'p>>
-    ensures { option_map (λ e. mapping_view e.now) result ≡ find (spec.matches (process_view process.now) word.now (file program.now.elf) program.now.load tail) (candidates word.now (map mapping_view process.now.entries.now)) }
+    ensures { option_map (λ e. mapping_view e.now) result ≡ find (spec.matches (process_view process.now) word.now (program_bytes program.now.elf) program.now.load tail) (candidates word.now (map mapping_view process.now.entries.now)) }
 {
     let mut misfit = program.load;
     for entry in process.candidates(word) {
@@ -79,7 +79,7 @@ fn matches_too(
     found: &Entry<'_>,
     entry: &Entry<'_>,
 ) -> bool
-    ensures { result ≡ spec.matches_too (process_view process.now) word.now (file program.now.elf) program.now.load tail (mapping_view found.now) (mapping_view entry.now) }
+    ensures { result ≡ spec.matches_too (process_view process.now) word.now (program_bytes program.now.elf) program.now.load tail (mapping_view found.now) (mapping_view entry.now) }
 {
     common_tail(word, entry.name) == tail
         && entry.name != found.name
@@ -94,7 +94,7 @@ fn other_matches(
     program: &Program<'_>,
     found: &Entry<'_>,
 ) -> bool
-    ensures { result ≡ list_any (spec.matches_too (process_view process.now) word.now (file program.now.elf) program.now.load tail (mapping_view found.now)) (candidates word.now (map mapping_view process.now.entries.now)) }
+    ensures { result ≡ list_any (spec.matches_too (process_view process.now) word.now (program_bytes program.now.elf) program.now.load tail (mapping_view found.now)) (candidates word.now (map mapping_view process.now.entries.now)) }
 {
     let mut misfit = program.load;
     for entry in process.candidates(word) {
@@ -111,9 +111,9 @@ pub fn entry_of<'p>(
     word: &[u8],
     program: &Program<'_>,
 ) -> Result<&'p Entry<'p>, ModuleFault>
-    ensures check { verdict result ≡ nearest_part (process_view process.now) word.now (file program.now.elf) program.now.load }
+    ensures check { verdict result ≡ nearest_part (process_view process.now) word.now (program_bytes program.now.elf) program.now.load }
     ensures refusal { OnlyRefuses result }
-    ensures value { IfOk result (λ e. spec.matching_entry (process_view process.now) word.now (file program.now.elf) program.now.load ≡ Some (mapping_view e.now)) }
+    ensures value { IfOk result (λ e. spec.matching_entry (process_view process.now) word.now (program_bytes program.now.elf) program.now.load ≡ Some (mapping_view e.now)) }
 {
     let tail = longest_tail(process, word);
     if tail == 0 {

@@ -1,7 +1,7 @@
 //! Where a process had a file.
 
 ghost use Rattle.std.specs.Prelude.{◌≡◌, ◌<◌, ◌^◌, ℕ, true, IfOk, IsErrOf, length};
-ghost use Rattle.elf_read.specs.Views.{file};
+ghost use Rattle.elf_mapped.specs.Program.{all_bytes, program_bytes};
 ghost use Rattle.sf_modules.specs.declared.fault.ModuleFault.TheVariants.{NoMemory, Unread};
 ghost use Rattle.sf_modules.specs.Entry.{mapping_view};
 ghost use Rattle.sf_modules.specs.Fault.{FollowsCheck, OnlyRefuses};
@@ -17,8 +17,7 @@ use crate::file::{Program, check_kind, program_of};
 use crate::fit::base_of;
 use crate::nearest::entry_of;
 use crate::process::Process;
-use core_notes::check_room;
-use elf_read::Elf;
+use elf_mapped::{MappedBytes, ProgramFile};
 use sf_model::Arch;
 
 /// An executable or a shared object that a process had mapped.
@@ -35,7 +34,7 @@ pub struct MappedFile<'p> {
 // Returns how far up a program was mapped.
 fn file_base(page: u64, program: &Program<'_>, entry: &Entry<'_>) -> u64
     requires { 0 < page }
-    ensures { result ≡ spec.file_base (file program.now.elf) page (mapping_view entry.now) program.now.load }
+    ensures { result ≡ spec.file_base (program_bytes program.now.elf) page (mapping_view entry.now) program.now.load }
 {
     base_of(page, entry, program.elf.segment(program.load).vaddr)
 }
@@ -46,8 +45,7 @@ fn check_build(
     program: &Program<'_>,
     entry: &Entry<'_>,
 ) -> Result<(), ModuleFault>
-    requires { length (file program.now.elf) < 2 ^ 32 }
-    ensures check { FollowsCheck (build_part (process_view process.now) (file program.now.elf) program.now.load (mapping_view entry.now)) result }
+    ensures check { FollowsCheck (build_part (process_view process.now) (program_bytes program.now.elf) program.now.load (mapping_view entry.now)) result }
     ensures unread { (address : ℕ) → IsErrOf result (ModuleFault.Unread address) → is_process_of_parts process.now ≡ true }
     ensures memory { IsErrOf result ModuleFault.NoMemory → ⊥ }
 {
@@ -63,13 +61,11 @@ fn check_build(
 }
 
 // Checks that the file has room for its PT_NOTE segments, which are read whole.
-fn check_notes(bytes: &[u8], program: &Program<'_>) -> Result<(), ModuleFault>
-    requires small { length bytes.now < 2 ^ 32 }
-    requires same { bytes.now ≡ file program.now.elf }
-    ensures check { result ≡ room_part (file program.now.elf) }
+fn check_notes(program: &Program<'_>) -> Result<(), ModuleFault>
+    ensures check { result ≡ room_part (program_bytes program.now.elf) }
     ensures refusal { OnlyRefuses result }
 {
-    check_room(bytes, &program.elf, program.count)?;
+    program.elf.check_room(program.count)?;
     Ok(())
 }
 
@@ -78,18 +74,15 @@ fn check_notes(bytes: &[u8], program: &Program<'_>) -> Result<(), ModuleFault>
 pub fn place_of<'p>(
     process: &Process<'p>,
     word: &[u8],
-    bytes: &[u8],
-    elf: &Elf<'_>,
+    elf: &ProgramFile<'_>,
 ) -> Result<MappedFile<'p>, ModuleFault>
-    requires small { length bytes.now < 2 ^ 32 }
-    requires same { bytes.now ≡ file elf.now }
-    ensures value { IfOk result (λ m. IsMapped (process_view process.now) word.now (file elf.now) (mapped_view m)) }
-    ensures check { FollowsCheck (place_check (process_view process.now) word.now (file elf.now)) result }
+    ensures value { IfOk result (λ m. IsMapped (process_view process.now) word.now (program_bytes elf.now) (mapped_view m)) }
+    ensures check { FollowsCheck (place_check (process_view process.now) word.now (program_bytes elf.now)) result }
     ensures unread { (address : ℕ) → IsErrOf result (ModuleFault.Unread address) → is_process_of_parts process.now ≡ true }
     ensures memory { IsErrOf result ModuleFault.NoMemory → ⊥ }
 {
     let program = program_of(elf)?;
-    check_notes(bytes, &program)?;
+    check_notes(&program)?;
     let entry = entry_of(process, word, &program)?;
     check_build(process, &program, entry)?;
     Ok(MappedFile {
@@ -114,17 +107,17 @@ pub fn place_of<'p>(
 pub fn mapped_file<'p>(
     process: &Process<'p>,
     word: &[u8],
-    bytes: &[u8],
+    bytes: MappedBytes<'_>,
 ) -> Result<MappedFile<'p>, ModuleFault>
-    requires { length bytes.now < 2 ^ 32 }
+    requires { length (all_bytes bytes) < 2 ^ 32 }
     // This is where the process had the file.
-    ensures sound { IfOk result (λ m. IsMapped (process_view process.now) word.now bytes.now (mapped_view m)) }
+    ensures sound { IfOk result (λ m. IsMapped (process_view process.now) word.now (all_bytes bytes.entry) (mapped_view m)) }
     // It is found exactly where no check fails; else the fault is that of the first that does, unless a part wasn't read.
-    ensures exact { FollowsCheck (mapped_check (process_view process.now) word.now bytes.now) result }
+    ensures exact { FollowsCheck (mapped_check (process_view process.now) word.now (all_bytes bytes.entry)) result }
     ensures unread { (address : ℕ) → IsErrOf result (ModuleFault.Unread address) → is_process_of_parts process.now ≡ true }
     ensures memory { IsErrOf result ModuleFault.NoMemory → ⊥ }
 {
-    let elf = Elf::parse(bytes)?;
+    let elf = ProgramFile::parse(bytes)?;
     check_kind(&elf)?;
-    place_of(process, word, bytes, &elf)
+    place_of(process, word, &elf)
 }

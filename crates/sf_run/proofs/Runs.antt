@@ -10,7 +10,7 @@ use Rattle.sf_words.specs.declared.refusal.Limit.{Limit}
 use Rattle.sf_words.specs.declared.refusal.Limit.TheVariants.{Inputs}
 use Rattle.sf_words.specs.declared.refusal.Refusal.{Refusal}
 use Rattle.sf_words.specs.declared.refusal.Refusal.TheVariants as refusal
-use Rattle.sf_words.specs.Loading.{AreBytesOf, AreLoaded, Contents, IsLoadingRefusal, IsRead, NamesFailed, bytes_known}
+use Rattle.sf_words.specs.Loading.{AreBytesOf, AreLoaded, Contents, IsLoadingRefusal, IsLongCore, IsRead, NamesFailed, NeedsTooMuch, bytes_known}
 use Rattle.sf_words.specs.Files.{counted_items, items_of}
 use Rattle.sf_words.specs.Items.{ItemWords, is_core, name_of}
 use Rattle.sf_words.proofs.Limits.{few_limit, many_limit}
@@ -25,7 +25,7 @@ use Rattle.sf_run.specs.Commands.{CanBeAsked, CommandComes, CommandWords, files_
 use Rattle.sf_run.proofs.EachCommand.{one_coming}
 use Rattle.sf_run.specs.declared.status.Status.{Status}
 use Rattle.sf_run.specs.declared.status.Status.TheVariants as status
-use Rattle.sf_run.specs.Ends.{AnswersFor, Delivered, NoneFailed, RunComes, RunEnds, RunIsComplete, RunRefuses, Seen, Tells, seen}
+use Rattle.sf_run.specs.Ends.{AnswersFor, Delivered, GivesUp, NoneFailed, RunComes, RunEnds, RunExceeds, RunIsComplete, RunRefuses, Seen, Tells, seen}
 use Rattle.sf_run.specs.Status.{status_of}
 
 -- ---- what a run comes to, from what it loads
@@ -57,7 +57,7 @@ no_name P failed (refusal.Input notice) h = tt
 refused_as : (command : CommandWords) (contents : Contents) (refused : Refusal) → ComesAs (RunComes command contents) refused → RunRefuses command contents refused
 refused_as command contents (refusal.Read name) h = absurd h
 refused_as command contents refusal.Memory h = h
-refused_as command contents (refusal.Limit limit) h = h
+refused_as command contents (refusal.Limit limit) h = inl h
 refused_as command contents (refusal.Input notice) h = h
 
 pub refused_runs : (command : CommandWords) (contents : Contents) (items : List (List ℕ)) → AreLoaded contents (items_of (files_of_command command)) items → (refused : Refusal) → ComesAs (Comes command items) refused
@@ -74,7 +74,8 @@ limit_comes command items limit h = subst (λ (l : Option Limit). ComesWithin l 
 pub loading_refuses : (command : CommandWords) (contents : Contents) (refused : Refusal) → counted_items (files_of_command command) ≤ 512 → IsLoadingRefusal contents (items_of (files_of_command command)) refused → RunRefuses command contents refused
 loading_refuses command contents (refusal.Read name) few h = h
 loading_refuses command contents refusal.Memory few h = tt
-loading_refuses command contents (refusal.Limit limit) few h = record { items = h.files; bytes = h.bytes; comes = limit_comes command h.files limit (few_limit (files_of_command command) h.files few ∙ h.first) }
+loading_refuses command contents (refusal.Limit limit) few (inl h) = inl record { items = h.files; bytes = h.bytes; comes = limit_comes command h.files limit (few_limit (files_of_command command) h.files few ∙ h.first) }
+loading_refuses command contents (refusal.Limit limit) few (inr h) = inr h
 loading_refuses command contents (refusal.Input notice) few h = absurd h
 
 -- there are files that items name
@@ -131,7 +132,16 @@ answers_for answer command known before after e are ends fine = record { comes =
     same : (other coming : Coming) → Comes command items coming → RunComes command before.files.contents other → status_of other ≡ status_of coming
     same other coming comes h = ap status_of (one_coming command items other coming are (here other h) comes)
 
-    at_status : (coming : Coming) → Comes command items coming → (answer : Status) → RunEnds answer command before after → (answer ≡ status_of coming) ⊎ (answer ≡ status.Memory)
+    -- a core file that has too many bytes has them in what the files hold
+    gives_up : (limit : Limit) → NeedsTooMuch before.files.contents (items_of (files_of_command command)) limit → GivesUp status.Limit command items
+    gives_up limit h =
+        inr (refl, limit, subst (λ (is : List (List ℕ)). IsLongCore (items_of (files_of_command command)) is limit) (subst (λ (c : Contents). IfSome c (λ k. h.files ≡ bytes_known k (items_of (files_of_command command)))) e h.bytes.are) h.long)
+
+    exceeds : (coming : Coming) → Comes command items coming → (limit : Limit) → RunExceeds command before.files.contents limit → (status.Limit ≡ status_of coming) ⊎ GivesUp status.Limit command items
+    exceeds coming comes limit (inl h) = inl (same _ coming comes h)
+    exceeds coming comes limit (inr h) = inr (gives_up limit h)
+
+    at_status : (coming : Coming) → Comes command items coming → (answer : Status) → RunEnds answer command before after → (answer ≡ status_of coming) ⊎ GivesUp answer command items
     at_status coming comes status.Done h = inl (same _ coming comes h.comes)
     at_status coming comes status.No h = inl (same _ coming comes h.comes)
     at_status coming comes status.Usage h = absurd h
@@ -141,10 +151,14 @@ answers_for answer command known before after e are ends fine = record { comes =
       | inr failed ↦ fine.output failed.cause
     ])
     at_status coming comes status.Refused h = inl (same _ coming comes h.2)
-    at_status coming comes status.Memory h = inr refl
-    at_status coming comes status.Limit h = inl (same _ coming comes h.1)
+    at_status coming comes status.Memory h = inr (inl refl)
+    at_status coming comes status.Limit h = exceeds coming comes h.0 h.1
 
-    accepted : RefusesNothing command items → (answer : Status) → RunEnds answer command before after → (answer ≡ status.Done) ⊎ ((answer ≡ status.No) ⊎ (answer ≡ status.Memory))
+    within : RefusesNothing command items → (limit : Limit) → RunExceeds command before.files.contents limit → GivesUp status.Limit command items
+    within nothing limit (inl h) = absurd (nothing.within limit (here _ h))
+    within nothing limit (inr h) = gives_up limit h
+
+    accepted : RefusesNothing command items → (answer : Status) → RunEnds answer command before after → (answer ≡ status.Done) ⊎ ((answer ≡ status.No) ⊎ GivesUp answer command items)
     accepted nothing status.Done h = inl refl
     accepted nothing status.No h = inr (inl refl)
     accepted nothing status.Usage h = absurd h
@@ -154,8 +168,8 @@ answers_for answer command known before after e are ends fine = record { comes =
       | inr failed ↦ fine.output failed.cause
     ])
     accepted nothing status.Refused h = absurd (nothing.accepted (shown_by h.0) (here _ h.2))
-    accepted nothing status.Memory h = inr (inr refl)
-    accepted nothing status.Limit h = absurd (nothing.within h.0 (here _ h.1))
+    accepted nothing status.Memory h = inr (inr (inl refl))
+    accepted nothing status.Limit h = inr (inr (within nothing h.0 h.1))
 
 pub complete_from : (answer : Status) (command : CommandWords) (before after : Seen) → CanBeAsked command → RunEnds answer command before after → RunIsComplete answer command before after
 complete_from answer command before after form ends = at_contents before.files.contents refl

@@ -13,7 +13,7 @@ use Rattle.sf_words.specs.declared.refusal.Limit.TheVariants.{Inputs}
 use Rattle.sf_words.specs.declared.refusal.Refusal.{Refusal}
 use Rattle.sf_words.specs.declared.refusal.Refusal.TheVariants as refusal
 use Rattle.sf_words.specs.declared.loaded.Loaded.{Loaded}
-use Rattle.sf_words.specs.Loading.{AreBytesOf, AreLoaded, Contents, bytes_known, loaded_bytes, loaded_items}
+use Rattle.sf_words.specs.Loading.{AreBytesOf, AreLoaded, Contents, IsLongCore, NeedsTooMuch, bytes_known, loaded_bytes, loaded_items}
 use Rattle.sf_words.specs.Files.{item_names, items_of}
 use Rattle.section_commands.specs.Coming.{Coming, Refused, Exceeded, Makes}
 use Rattle.section_commands.specs.declared.made.Outcome.{Outcome}
@@ -41,6 +41,10 @@ pub record RunComes (command : CommandWords) (contents : Contents) (coming : Com
   pub items : List (List ℕ)
   pub bytes : AreBytesOf contents (items_of (files_of_command command)) items
   pub comes : Comes command items coming
+
+-- a limit is what the command comes to, or more may have to be read of its core file than is read of one
+abbrev pub RunExceeds : CommandWords → Contents → Limit → Type 0
+RunExceeds command contents limit = RunComes command contents (Exceeded limit) ⊎ NeedsTooMuch contents (items_of (files_of_command command)) limit
 
 -- Files were read alone: none was created or changed. Nothing went to the output, and the errors got this line.
 pub record TurnedAway (before after : Seen) (line : List ℕ) : Type 0 where
@@ -118,7 +122,7 @@ RunEnds status.Refused command before after =
     (notice : Notice) × HasLine notice × RunComes command before.files.contents (Refused (shown_by notice)) × TurnedAway before after (fault_text notice)
 RunEnds status.Memory command before after = TurnedAway before after memory_line
 RunEnds status.Limit command before after =
-    (limit : Limit) × RunComes command before.files.contents (Exceeded limit) × TurnedAway before after (limit_line limit)
+    (limit : Limit) × RunExceeds command before.files.contents limit × TurnedAway before after (limit_line limit)
 
 -- the run ends with `limit inputs`, and no file was opened
 pub record TurnedAwayUnread (answer : Status) (before after : Seen) : Type 0 where
@@ -132,10 +136,14 @@ pub record NoneFailed (before after : Seen) : Type 0 where
   pub writes : Rose before.files.write_faults after.files.write_faults → ⊥
   pub output : Rose before.out.faults after.out.faults → ⊥
 
--- the status is that of what the command comes to; and where nothing is refused, the run made something; unless memory ran out
+-- memory ran out, or a limit is exceeded, since a core file has more bytes than may be read of one
+abbrev pub GivesUp : Status → CommandWords → (items : List (List ℕ)) → Type 0
+GivesUp answer command items = (answer ≡ status.Memory) ⊎ ((answer ≡ status.Limit) × (limit : Limit) × IsLongCore (items_of (files_of_command command)) items limit)
+
+-- the status is that of what the command comes to; and where nothing is refused, the run made something; unless it gave up
 pub record AnswersFor (answer : Status) (command : CommandWords) (items : List (List ℕ)) : Type 0 where
-  pub comes : (coming : Coming) → Comes command items coming → (answer ≡ status_of coming) ⊎ (answer ≡ status.Memory)
-  pub accepted : RefusesNothing command items → (answer ≡ status.Done) ⊎ ((answer ≡ status.No) ⊎ (answer ≡ status.Memory))
+  pub comes : (coming : Coming) → Comes command items coming → (answer ≡ status_of coming) ⊎ GivesUp answer command items
+  pub accepted : RefusesNothing command items → (answer ≡ status.Done) ⊎ ((answer ≡ status.No) ⊎ GivesUp answer command items)
 
 -- where the contents are known and no call failed, the run answers for the bytes that the files hold
 abbrev pub RunIsComplete : Status → CommandWords → (before after : Seen) → Type 0
@@ -155,9 +163,11 @@ pub record IsLoadedFor (command : CommandWords) (contents : Contents) (loaded : 
   pub items : loaded_items loaded ≡ items_of (files_of_command command)
   pub bytes : AreLoaded contents (items_of (files_of_command command)) (loaded_bytes loaded)
 
--- why a run makes nothing: an item could not be read, or a refusal is what the run comes to, or memory ran out
+-- why a run makes nothing: an item could not be read, or a refusal is what the run comes to, or too much would have to be read of a core
+-- file, or memory ran out
 abbrev pub RunRefuses : CommandWords → Contents → Refusal → Type 0
 RunRefuses command contents (refusal.Read name) = Contains (item_names (files_of_command command)) name.now
+RunRefuses command contents (refusal.Limit limit) = RunExceeds command contents limit
 RunRefuses command contents refused = ComesAs (RunComes command contents) refused
 
 -- a refused item has a line

@@ -44,7 +44,7 @@ fn input_bytes<'b>(input: InputFile<'_>, file: &'b Loaded<'_>) -> InputBytes<'b>
     match &file.read {
         ItemRead::File(FileRead::Linked(elf)) => InputBytes::Linked(elf),
         ItemRead::File(FileRead::Whole(bytes)) => InputBytes::whole(input.form, bytes),
-        ItemRead::Core(_) => unreachable!(),
+        ItemRead::Mapped(_) | ItemRead::Core(_) => unreachable!(),
     }
 }
 

@@ -8,6 +8,7 @@ ghost use Rattle.elf_read.specs.Header.{arch_of};
 ghost use Rattle.core_notes.specs.Checks.{core_check};
 ghost use Rattle.core_parts.specs.Input.{input_file, is_by_parts};
 ghost use Rattle.core_parts.specs.Loaded.{core_read_bytes, is_whole};
+ghost use Rattle.elf_mapped.specs.Program.{all_bytes};
 ghost use Rattle.sf_asm.specs.Fault.{is_answered};
 ghost use Rattle.sf_modules.specs.Entry.{mapping_view};
 ghost use Rattle.sf_modules.specs.Process.{is_process_of_parts, process_of, process_view};
@@ -26,6 +27,7 @@ ghost use Rattle.sf_run.specs.Procbacktrace.{FileComes, FilesCome, Procbacktrace
 
 use crate::linked::unlinked;
 use core_parts::{CoreInput, CoreRead};
+use elf_mapped::MappedBytes;
 use module_tables::numbered;
 use process_tables::{MappedTable, MappedWalks, TableFault, mapped_table, sections_of, walks_text};
 use section_commands::{
@@ -53,11 +55,11 @@ fn table_of<'w, 'p, 'a>(
     process: &Process<'p>,
     item: u32,
     word: &'w str,
-    bytes: &[u8],
+    bytes: MappedBytes<'_>,
 ) -> Result<MappedTable<'w, 'p>, Unmade<'a>>
-    requires { length bytes.now < 2 ^ 32 }
-    ensures made { IfOk result (λ t. (m : MappedModule) × FileComes (process_view process.now) item (word.now, bytes.now) (Ok m) × IsTableOf m t) }
-    ensures refused { IfErr result (UnmadeAs (λ (coming : Coming). FileComes (process_view process.now) item (word.now, bytes.now) (Err coming))) }
+    requires { length (all_bytes bytes) < 2 ^ 32 }
+    ensures made { IfOk result (λ t. (m : MappedModule) × FileComes (process_view process.now) item (word.now, all_bytes bytes.entry) (Ok m) × IsTableOf m t) }
+    ensures refused { IfErr result (UnmadeAs (λ (coming : Coming). FileComes (process_view process.now) item (word.now, all_bytes bytes.entry) (Err coming))) }
     ensures whole { is_process_of_parts process.now ≡ false → NeedsNoMore result }
 {
     match mapped_table(alloc, process, item, word, bytes) {
@@ -90,7 +92,7 @@ fn tables_of<'w, 'p, 'a>(
             unreachable!();
         };
         if is_mapped_name(process, word.as_bytes()) {
-            tables.push(table_of(alloc, process, item, word, file.bytes())?)?;
+            tables.push(table_of(alloc, process, item, word, file.mapped())?)?;
         }
     }
     Ok(tables)
@@ -175,7 +177,7 @@ fn core_walked<'a, 'm>(
 ) -> Result<Made<'m>, Unmade<'a>>
     requires items { loaded_items files.now ≡ map Mapped (map string_bytes names.now) }
     requires few { length files.now ≤ 512 }
-    requires short { length (core_read_bytes core.now) < 2 ^ 32 }
+    requires short { is_whole core.now ≡ true → length (core_read_bytes core.now) < 2 ^ 32 }
     requires small { All (λ bytes. length bytes < 2 ^ 32) (loaded_bytes files.now) }
     ensures comes { MadeAs (ProcessComes (core_read_bytes core.now) (ProcbacktraceComesIn depth (zip (map string_bytes names.now) (loaded_bytes files.now))) (core_check (core_read_bytes core.now))) result }
     ensures whole { is_whole core.now ≡ true → NeedsNoMore result }

@@ -24,7 +24,7 @@ use std::alloc::Global;
 const ITEM_COUNT: usize = 512;
 
 /// How often the parts of a core file that were missed are read, before all of it is.
-const ROUNDS: u32 = 4;
+const ROUNDS: u32 = 6;
 
 /// Makes what is asked for of the files that were loaded and writes it, or prints why nothing was made. If more of a core
 /// file has to be read, returns the addresses of its memory, and leaves everything as it was.

@@ -2,6 +2,7 @@
 
 use elf_dwarf_tests::samples::file_of;
 use module_tables::{ModuleTable, module_table};
+use sf_asm::InputBytes;
 use std::test::Fail;
 
 /// A shared object (ELF64 gABI): `.eh_frame` 1 at address 0x2000, and `.shstrtab` 2, whose text is at 220. Its only function
@@ -75,7 +76,7 @@ fn first_signal(table: &ModuleTable) -> Option<(u64, u64, [i64; 3])> {
 fn files_have_signal_frames(rt: HostRuntime) -> Result<(), Fail> {
     for case in &CASES {
         let file = file_of(rt.alloc(), RESTORE_RT, case.edits)?;
-        let table = module_table(rt.alloc(), &file, 0x10000, 0x13000)?;
+        let table = module_table(rt.alloc(), InputBytes::File(&file), 0x10000, 0x13000)?;
         assert_eq!(rt;
             table.section.as_slice(),
             EMPTY.as_slice(),

@@ -1,6 +1,6 @@
 -- Core files that are loaded again, in the places of what was loaded of them before.
 use Rattle.std.specs.Prelude.{IfSome}
-use Rattle.std.proofs.Common.{◌≡◌, ℕ, zero, suc, ◌+◌, ◌<◌, ◌≤◌, true, false, All, List, [], ◌∷◌, length, set, take, get_or, Some, None, IsTrue, refl, ap, sym, subst, ◌∙◌, arith}
+use Rattle.std.proofs.Common.{◌≡◌, ◌⊎◌, inl, inr, ◌^◌, ℕ, zero, suc, ◌+◌, ◌<◌, ◌≤◌, true, false, All, List, [], ◌∷◌, length, set, take, get_or, Some, None, IsTrue, refl, ap, sym, subst, ◌∙◌, arith}
 use Rattle.std.proofs.lemmas.List.{length-map, length-set, map-set, set-get_or, take_more_set}
 use Rattle.std.proofs.lemmas.List.Elements.{All-more, All-push}
 use Rattle.std.proofs.Math.ListN.{get_or-map}
@@ -15,9 +15,9 @@ use Rattle.sf_words.specs.declared.refusal.Refusal.{Refusal}
 use Rattle.sf_base.specs.declared.loading.LoadFault.{LoadFault}
 use Rattle.sf_base.specs.declared.loading.LoadFault.TheVariants as load
 use Rattle.sf_words.specs.ItemRead.{is_read_whole, read_bytes}
-use Rattle.sf_words.specs.Items.{ItemWords, Input, Section, Core, Mapped, counted_bytes, is_core, item_of, limit_of, name_of, names_of, suits}
-use Rattle.sf_words.specs.Loading.{Contents, bytes_limit, bytes_known, loaded_bytes, loaded_items, AreBytesOf, AreLoaded, AreReadWhole, Exceeds, IsLoadRefusal, IsLoadingRefusal}
-use Rattle.sf_words.proofs.Loads.{goes_on, longer, refuses_by, too_long, within_both}
+use Rattle.sf_words.specs.Items.{ItemWords, Input, Section, Core, Mapped, counted_bytes, is_core, item_of, limit_of, most_read, name_of, suits}
+use Rattle.sf_words.specs.Loading.{Contents, bytes_limit, bytes_known, loaded_bytes, loaded_items, AreBytesOf, AreLoaded, AreReadWhole, Exceeds, IsLoadRefusal, IsLoadingRefusal, NeedsTooMuch}
+use Rattle.sf_words.proofs.Loads.{core_or_not, goes_on, longer, needs_too_much, refuses_by, too_long, within_both}
 
 -- of a core file no bytes count
 none_counted : (kind : ItemWords) (n : ℕ) → is_core kind ≡ true → counted_bytes kind n ≡ 0
@@ -55,6 +55,11 @@ then_too_long item total (i ∷ is) (f ∷ fs) (suc k) d bytes lt count long h =
     ∙ then_too_long (item + 1) (total + counted_bytes i (length f)) is fs k d bytes (omega arith) (omega arith) long (sym (goes_on item total i f (zip is fs) both.0 both.1) ∙ h)
     ∙ ap (λ (n : ℕ). Some (File n)) (omega arith)
 
+at_set : (files : List (List ℕ)) (k : ℕ) (bytes : List ℕ) → k < length files → get_or (set files k bytes) k [] ≡ bytes
+at_set [] k bytes lt = let none : ⊥ = omega arith in absurd none
+at_set (f ∷ fs) zero bytes lt = refl
+at_set (f ∷ fs) (suc k) bytes lt = at_set fs k bytes (omega arith)
+
 -- what a file's name holds, in the place of the file's bytes
 again : (contents : Contents) (items : List ItemWords) (files : List (List ℕ)) (k : ℕ) (d : ItemWords) (bytes : List ℕ) → k < length items → AreBytesOf contents items files
     → IfSome contents (λ known. bytes ≡ contents_of known (name_of (get_or items k d))) → AreBytesOf contents items (set files k bytes)
@@ -76,21 +81,31 @@ loaded_again contents items files k d bytes lt h core short is = record {
   within = still_within 0 0 items files k d bytes core short h.within;
 }
 
--- a file that is too long when it is loaded again
+-- a file that is too long when it is loaded again, or a core file of which too much would have to be read
 long_again : (contents : Contents) (items : List ItemWords) (files : List (List ℕ)) (k : ℕ) (d : ItemWords) → k < length items → AreLoaded contents items files
-    → IfSome contents (λ known. limit_of (get_or items k d) < length (contents_of known (name_of (get_or items k d)))) → Exceeds contents items (File k)
+    → IfSome contents (λ known. most_read (get_or items k d) < length (contents_of known (name_of (get_or items k d)))) → Exceeds contents items (File k) ⊎ NeedsTooMuch contents items (File k)
 long_again contents items files k d lt h long = by_contents contents h long
   where
-    with_bytes : (contents : Contents) (bytes : List ℕ) → AreLoaded contents items files → limit_of (get_or items k d) < length bytes
-        → IfSome contents (λ known. bytes ≡ contents_of known (name_of (get_or items k d))) → Exceeds contents items (File k)
-    with_bytes contents bytes h long is = record {
-      files = set files k bytes;
-      bytes = again contents items files k d bytes lt h.bytes is;
-      first = then_too_long 0 0 items files k d bytes lt h.bytes.count long h.within ∙ ap (λ (n : ℕ). Some (File n)) (omega arith);
-    }
+    with_bytes : (contents : Contents) (bytes : List ℕ) → AreLoaded contents items files → most_read (get_or items k d) < length bytes
+        → IfSome contents (λ known. bytes ≡ contents_of known (name_of (get_or items k d))) → Exceeds contents items (File k) ⊎ NeedsTooMuch contents items (File k)
+    with_bytes contents bytes h long is = by_kind (core_or_not (get_or items k d))
+      where
+        are : AreBytesOf contents items (set files k bytes)
+        are = again contents items files k d bytes lt h.bytes is
 
-    by_contents : (contents : Contents) → AreLoaded contents items files → IfSome contents (λ known. limit_of (get_or items k d) < length (contents_of known (name_of (get_or items k d)))) → Exceeds contents items (File k)
-    by_contents None h long = let l = longer (limit_of (get_or items k d)) in with_bytes None l.0 h l.1 tt
+        by_kind : ((is_core (get_or items k d) ≡ true) × (most_read (get_or items k d) ≡ 2 ^ 30)) ⊎ (most_read (get_or items k d) ≡ limit_of (get_or items k d))
+            → Exceeds contents items (File k) ⊎ NeedsTooMuch contents items (File k)
+        by_kind (inl core) =
+            inr (needs_too_much contents items (set files k bytes) k d bytes are lt (at_set files k bytes (omega (arith, lt, h.bytes.count))) core.0 (subst (λ (n : ℕ). n < length bytes) core.1 long))
+        by_kind (inr other) = inl record {
+          files = set files k bytes;
+          bytes = are;
+          first = then_too_long 0 0 items files k d bytes lt h.bytes.count (subst (λ (n : ℕ). n < length bytes) other long) h.within ∙ ap (λ (n : ℕ). Some (File n)) (omega arith);
+        }
+
+    by_contents : (contents : Contents) → AreLoaded contents items files → IfSome contents (λ known. most_read (get_or items k d) < length (contents_of known (name_of (get_or items k d))))
+        → Exceeds contents items (File k) ⊎ NeedsTooMuch contents items (File k)
+    by_contents None h long = let l = longer (most_read (get_or items k d)) in with_bytes None l.0 h l.1 tt
     by_contents (Some known) h long = with_bytes (Some known) (contents_of known (name_of (get_or items k d))) h long refl
 
 -- ---- the file at a place of what was loaded
@@ -118,7 +133,7 @@ of_item_at P items now k file are lt is all =
 -- why the file is not loaded again
 pub refuses_again : (contents before : Contents) (items : List ItemWords) (now : List Loaded) (k : ℕ) (file : Loaded) (fault : LoadFault) (refused : Refusal) → before ≡ contents → loaded_items now ≡ items
     → AreLoaded contents items (loaded_bytes now) → k < length now → file ≡ get_or now k file → IsLoadRefusal fault k (name_of (item_of file.item)) refused
-    → ((limit : ℕ) → fault ≡ load.TooLong limit → IfSome before (λ known. limit_of (item_of file.item) < length (contents_of known (name_of (item_of file.item))))) → IsLoadingRefusal contents items refused
+    → ((limit : ℕ) → fault ≡ load.TooLong limit → IfSome before (λ known. most_read (item_of file.item) < length (contents_of known (name_of (item_of file.item))))) → IsLoadingRefusal contents items refused
 refuses_again contents before items now k file fault refused same are h lt is refuses long =
     let own = item_of file.item in
     let at = at_place items now k file are is in
@@ -126,8 +141,8 @@ refuses_again contents before items now k file fault refused same are h lt is re
     refuses_by contents items k k own fault refused place refl (subst (λ (i : ItemWords). IsLoadRefusal fault k (name_of i) refused) (sym at) refuses)
     (λ limit e.
     long_again contents items (loaded_bytes now) k own place h
-    (subst (λ (i : ItemWords). IfSome contents (λ known. limit_of i < length (contents_of known (name_of i)))) (sym at)
-    (subst (λ (o : Contents). IfSome o (λ known. limit_of own < length (contents_of known (name_of own)))) same (long limit e))))
+    (subst (λ (i : ItemWords). IfSome contents (λ known. most_read i < length (contents_of known (name_of i)))) (sym at)
+    (subst (λ (o : Contents). IfSome o (λ known. most_read own < length (contents_of known (name_of own)))) same (long limit e))))
 
 -- the file is loaded again: the items are as they were
 pub items_again : (items : List ItemWords) (now after : List Loaded) (k : ℕ) (file new : Loaded) → loaded_items now ≡ items → file ≡ get_or now k file → new.item ≡ file.item → after ≡ set now k new
@@ -161,6 +176,7 @@ whole_again now after k new it lt read_is put all whole =
 -- a file that is no core file is read whole
 not_core_whole : (item : ItemWords) (it : ItemRead) → IsTrue (suits item it) → is_core item ≡ false → is_read_whole it ≡ true
 not_core_whole item (read.File file) suited other = refl
+not_core_whole item (read.Mapped mapped) suited other = refl
 not_core_whole item (read.Core core) suited other = let e : true ≡ false = sym suited ∙ other in absurd cc
 
 pub whole_on : (now after : List Loaded) (k : ℕ) (file : Loaded) → k < length now → file ≡ get_or now k file → after ≡ now → AreReadWhole (take k now) → is_core (item_of file.item) ≡ false

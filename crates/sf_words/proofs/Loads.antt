@@ -1,6 +1,6 @@
 -- Files that are loaded one after the other, and the first limit that they exceed.
 use Rattle.std.specs.Prelude.{nat_lt, IfSome}
-use Rattle.std.proofs.Common.{◌≡◌, ℕ, zero, suc, ◌+◌, ◌<◌, ◌≤◌, ◌^◌, Bool, true, false, cond, All, List, [], ◌∷◌, ◌++◌, map, length, take, drop, get_or, Option, Some, None, refl, ap, sym, subst, append_assoc, ◌∙◌, arith}
+use Rattle.std.proofs.Common.{◌≡◌, ◌⊎◌, inl, inr, ℕ, zero, suc, ◌+◌, ◌<◌, ◌≤◌, ◌^◌, Bool, true, false, cond, All, List, [], ◌∷◌, ◌++◌, map, length, take, drop, get_or, Option, Some, None, refl, ap, sym, subst, append_assoc, ◌∙◌, arith}
 use Rattle.std.proofs.lemmas.Bool.{lt-ltb, le-ltb}
 use Rattle.std.proofs.lemmas.Bool.Decides.{nat_tests}
 use Rattle.std.proofs.lemmas.List.Elements.{All-push}
@@ -13,13 +13,13 @@ use Rattle.sf_words.specs.declared.item.Item.{Item}
 use Rattle.std.specs.List.{zip}
 use Rattle.sf_words.specs.declared.loaded.Loaded.{Loaded}
 use Rattle.sf_words.specs.ItemRead.{is_read_whole, read_bytes}
-use Rattle.sf_words.specs.Items.{ItemWords, Input, Section, Core, Mapped, counted_bytes, item_of, limit_of, name_of, names_of}
+use Rattle.sf_words.specs.Items.{ItemWords, Input, Section, Core, Mapped, counted_bytes, is_core, item_of, limit_of, most_read, name_of, names_of}
 use Rattle.std.proofs.Math.ListN.{get_or-map}
 use Rattle.sf_words.specs.declared.refusal.Limit.{Limit}
 use Rattle.sf_words.specs.declared.refusal.Limit.TheVariants.{File, Total}
 use Rattle.sf_words.specs.declared.refusal.Refusal.{Refusal}
 use Rattle.sf_words.specs.declared.refusal.Refusal.TheVariants as refusal
-use Rattle.sf_words.specs.Loading.{Contents, bytes_limit, items_limit, bytes_known, loaded_bytes, loaded_items, AreLoaded, Exceeds, IsReadOf, IsLoadRefusal, IsLoadingRefusal, NamesFailed}
+use Rattle.sf_words.specs.Loading.{Contents, bytes_limit, items_limit, bytes_known, loaded_bytes, loaded_items, AreBytesOf, AreLoaded, Exceeds, IsReadOf, IsLoadRefusal, IsLoadingRefusal, NamesFailed, NeedsTooMuch}
 
 one_step : (item total : ℕ) (kind : ItemWords) (bytes : List ℕ) (rest : List (ItemWords × List ℕ)) (long much : Bool) → nat_lt (limit_of kind) (length bytes) ≡ long
     → nat_lt (2 ^ 30) (total + counted_bytes kind (length bytes)) ≡ much
@@ -191,6 +191,58 @@ long_file None items k d loaded total h lt long =
 long_file (Some known) items k d loaded total h lt long =
     exceeded (Some known) items k d loaded total (contents_of known (name_of (get_or items k d))) (File k) h lt refl (λ rest. too_long k total (get_or items k d) _ rest long)
 
+-- ---- core files that have more bytes than are read of one
+-- an element is the one at its place, whatever is taken past the end
+same_element : {A : Type 0} (xs : List A) (k : ℕ) (d e : A) → k < length xs → get_or xs k d ≡ get_or xs k e
+same_element [] k d e lt = let none : ⊥ = omega arith in absurd none
+same_element (x ∷ xs) zero d e lt = refl
+same_element (x ∷ xs) (suc k) d e lt = same_element xs k d e (omega arith)
+
+element_after : {A : Type 0} (before after : List A) (x d : A) (k : ℕ) → length before ≡ k → get_or (before ++ x ∷ after) k d ≡ x
+element_after [] after x d zero e = refl
+element_after [] after x d (suc k) e = let none : ⊥ = omega (arith, e) in absurd none
+element_after (b ∷ before) after x d zero e = let none : ⊥ = omega (arith, e) in absurd none
+element_after (b ∷ before) after x d (suc k) e = element_after before after x d k (omega (arith, e))
+
+-- the item at a place is a core file of these bytes, of which too much would have to be read
+pub needs_too_much : (contents : Contents) (items : List ItemWords) (files : List (List ℕ)) (k : ℕ) (d : ItemWords) (bytes : List ℕ) → AreBytesOf contents items files → k < length items
+    → get_or files k [] ≡ bytes → is_core (get_or items k d) ≡ true → 2 ^ 30 < length bytes → NeedsTooMuch contents items (File k)
+needs_too_much contents items files k d bytes are lt at core long = record {
+  files = files;
+  bytes = are;
+  long = record {
+    item = k;
+    within = lt;
+    core = ap is_core (same_element items k (Core []) d lt) ∙ core;
+    long = subst (λ (b : List ℕ). 2 ^ 30 < length b) (sym at) long;
+    limit_is = refl;
+  };
+}
+
+-- of a file of any kind but a core file as many bytes are read as it may have
+pub core_or_not : (kind : ItemWords) → ((is_core kind ≡ true) × (most_read kind ≡ 2 ^ 30)) ⊎ (most_read kind ≡ limit_of kind)
+core_or_not (Input input) = inr refl
+core_or_not (Section section) = inr refl
+core_or_not (Core name) = inl (refl, refl)
+core_or_not (Mapped name) = inr refl
+
+-- the core file at hand has more bytes than are read of one
+long_core : (contents : Contents) (items : List ItemWords) (k : ℕ) (d : ItemWords) (loaded : List (List ℕ)) (total : ℕ) → Begun contents items k loaded total → k < length items
+    → is_core (get_or items k d) ≡ true → most_read (get_or items k d) ≡ 2 ^ 30 → IfSome contents (λ known. most_read (get_or items k d) < length (contents_of known (name_of (get_or items k d))))
+    → NeedsTooMuch contents items (File k)
+long_core None items k d loaded total h lt core most long =
+    let l = longer (most_read (get_or items k d)) in
+    let later : List (List ℕ) = map (λ (item : ItemWords). []) (drop (k + 1) items) in
+    let n : length later + k + 1 ≡ length items = as_many (λ (item : ItemWords). []) items k lt in
+    let m = length-append loaded (l.0 ∷ later) in
+    needs_too_much None items (loaded ++ l.0 ∷ later) k d l.0 record { are = tt; count = omega (arith, m, n, h.count) } lt (element_after loaded later l.0 [] k h.count) core
+    (subst (λ (n : ℕ). n < length l.0) most l.1)
+long_core (Some known) items k d loaded total h lt core most long =
+    let one : ItemWords → List ℕ = λ item. contents_of known (name_of item) in
+    let count = length-map items one in
+    needs_too_much (Some known) items (bytes_known known items) k d (one (get_or items k d)) record { are = refl; count = count } lt
+    (same_element (bytes_known known items) k [] (one d) (omega (arith, count, lt)) ∙ get_or-map one items k d) core (subst (λ (n : ℕ). n < length (one (get_or items k d))) most long)
+
 -- with the file at hand all are too long
 long_in_all : (contents : Contents) (items : List ItemWords) (k : ℕ) (d : ItemWords) (loaded : List (List ℕ)) (total : ℕ) (bytes : List ℕ) → Begun contents items k loaded total → k < length items
     → length bytes ≤ limit_of (get_or items k d) → 2 ^ 30 < total + counted_bytes (get_or items k d) (length bytes) → IfSome contents (λ known. bytes ≡ contents_of known (name_of (get_or items k d)))
@@ -209,7 +261,7 @@ named items k d lt name e = (k, omega (arith, length-map items name_of, lt), by_
 
 -- a fault of loading makes a refusal, if a file that is too long exceeds the limit of its kind
 pub refuses_by : (contents : Contents) (items : List ItemWords) (k item : ℕ) (d : ItemWords) (fault : LoadFault) (refused : Refusal) → k < length items → item ≡ k
-    → IsLoadRefusal fault item (name_of (get_or items k d)) refused → ((limit : ℕ) → fault ≡ load.TooLong limit → Exceeds contents items (File k)) → IsLoadingRefusal contents items refused
+    → IsLoadRefusal fault item (name_of (get_or items k d)) refused → ((limit : ℕ) → fault ≡ load.TooLong limit → Exceeds contents items (File k) ⊎ NeedsTooMuch contents items (File k)) → IsLoadingRefusal contents items refused
 refuses_by contents items k item d load.Read refused lt is refuses long = read refused refuses
   where
     read : (refused : Refusal) → IsReadOf (name_of (get_or items k d)) refused → IsLoadingRefusal contents items refused
@@ -223,9 +275,15 @@ refuses_by contents items k item d load.NoMemory refused lt is refuses long = su
 
 load_refuses : (contents : Contents) (items : List ItemWords) (k item : ℕ) (d : ItemWords) (loaded : List (List ℕ)) (total : ℕ) (fault : LoadFault) (refused : Refusal)
     → Begun contents items k loaded total → k < length items → item ≡ k → IsLoadRefusal fault item (name_of (get_or items k d)) refused
-    → ((limit : ℕ) → fault ≡ load.TooLong limit → IfSome contents (λ known. limit_of (get_or items k d) < length (contents_of known (name_of (get_or items k d))))) → IsLoadingRefusal contents items refused
+    → ((limit : ℕ) → fault ≡ load.TooLong limit → IfSome contents (λ known. most_read (get_or items k d) < length (contents_of known (name_of (get_or items k d))))) → IsLoadingRefusal contents items refused
 load_refuses contents items k item d loaded total fault refused h lt is refuses long =
-    refuses_by contents items k item d fault refused lt is refuses (λ limit e. long_file contents items k d loaded total h lt (long limit e))
+    refuses_by contents items k item d fault refused lt is refuses (λ limit e. by_kind (core_or_not (get_or items k d)) (long limit e))
+  where
+    by_kind : ((is_core (get_or items k d) ≡ true) × (most_read (get_or items k d) ≡ 2 ^ 30)) ⊎ (most_read (get_or items k d) ≡ limit_of (get_or items k d))
+        → IfSome contents (λ known. most_read (get_or items k d) < length (contents_of known (name_of (get_or items k d)))) → Exceeds contents items (File k) ⊎ NeedsTooMuch contents items (File k)
+    by_kind (inl core) l = inr (long_core contents items k d loaded total h lt core.0 core.1 l)
+    by_kind (inr other) l =
+        inl (long_file contents items k d loaded total h lt (subst (λ (n : ℕ). IfSome contents (λ known. n < length (contents_of known (name_of (get_or items k d))))) other l))
 
 -- the refusal of an item that could not be read names the file that failed
 pub names_failed : (failed : Option (List ℕ)) (fault : LoadFault) (item : ℕ) (name : List ℕ) (refused : Refusal) → IsLoadRefusal fault item name refused → (fault ≡ load.Read → IfSome failed (λ known. known ≡ name))
@@ -297,12 +355,12 @@ long_in_all_at contents before items k d loaded total bytes n counted same h lt 
 
 pub load_refuses_at : (contents before : Contents) (items : List Item) (k number : ℕ) (d : Item) (loaded : List (List ℕ)) (total : ℕ) (fault : LoadFault) (refused : Refusal) → before ≡ contents
     → Begun contents (map item_of items) k loaded total → k < length (map item_of items) → number ≡ k → IsLoadRefusal fault number (name_of (item_of (get_or items k d))) refused
-    → ((limit : ℕ) → fault ≡ load.TooLong limit → IfSome before (λ known. limit_of (item_of (get_or items k d)) < length (contents_of known (name_of (item_of (get_or items k d))))))
+    → ((limit : ℕ) → fault ≡ load.TooLong limit → IfSome before (λ known. most_read (item_of (get_or items k d)) < length (contents_of known (name_of (item_of (get_or items k d))))))
     → IsLoadingRefusal contents (map item_of items) refused
 load_refuses_at contents before items k number d loaded total fault refused same h lt is refuses long =
     let own = item_of (get_or items k d) in
     load_refuses contents (map item_of items) k number (item_of d) loaded total fault refused h lt is
     (subst (λ (i : ItemWords). IsLoadRefusal fault number (name_of i) refused) (sym (item_at items k d)) refuses)
     (λ limit e.
-    subst (λ (i : ItemWords). IfSome contents (λ known. limit_of i < length (contents_of known (name_of i)))) (sym (item_at items k d))
-    (subst (λ (o : Contents). IfSome o (λ known. limit_of own < length (contents_of known (name_of own)))) same (long limit e)))
+    subst (λ (i : ItemWords). IfSome contents (λ known. most_read i < length (contents_of known (name_of i)))) (sym (item_at items k d))
+    (subst (λ (o : Contents). IfSome o (λ known. most_read own < length (contents_of known (name_of own)))) same (long limit e)))

@@ -33,8 +33,15 @@ name_of (Mapped name) = name
 abbrev pub limit_of : ItemWords → ℕ
 limit_of (Input input) = 2 ^ 28
 limit_of (Section section) = 2 ^ 29
-limit_of (Core name) = 2 ^ 30
+limit_of (Core name) = 2 ^ 40
 limit_of (Mapped name) = 2 ^ 28
+
+-- the most bytes that are read of one file of its kind: of a core file fewer than it may have
+abbrev pub most_read : ItemWords → ℕ
+most_read (Input input) = 2 ^ 28
+most_read (Section section) = 2 ^ 29
+most_read (Core name) = 2 ^ 30
+most_read (Mapped name) = 2 ^ 28
 
 -- how many of a file's bytes count for the limit of all files of a run: all but a core's
 abbrev pub counted_bytes : ItemWords → (bytes : ℕ) → ℕ
@@ -63,15 +70,23 @@ is_core (Section section) = false
 is_core (Core name) = true
 is_core (Mapped name) = false
 
--- whether a file of this kind may be read by its parts: an ELF file that is linked, or a core file
-abbrev pub may_be_by_parts : ItemWords → Bool
-may_be_by_parts item = is_elf_input item || is_core item
+-- whether a file is one that a process may have had mapped
+abbrev pub is_mapped : ItemWords → Bool
+is_mapped (Input input) = false
+is_mapped (Section section) = false
+is_mapped (Core name) = false
+is_mapped (Mapped name) = true
 
--- whether a file of this kind may be read so: by the parts of an ELF file only if it is linked as one, whole as any other file if it is
--- no core file, and as a core file only if it is one
+-- whether a file of this kind may be read by its parts: an ELF file that is linked, one that may have been mapped, or a core file
+abbrev pub may_be_by_parts : ItemWords → Bool
+may_be_by_parts item = is_elf_input item || (is_mapped item || is_core item)
+
+-- whether a file of this kind may be read so: by the parts of an ELF file only if it is linked as one, whole as an input or a section,
+-- and as a mapped file or a core file only if it is one
 abbrev pub suits : ItemWords → ItemRead → Bool
 suits item (read.File (Linked elf)) = is_elf_input item
-suits item (read.File (Whole bytes)) = not (is_core item)
+suits item (read.File (Whole bytes)) = not (is_mapped item || is_core item)
+suits item (read.Mapped mapped) = is_mapped item
 suits item (read.Core core) = is_core item
 
 -- ---- lists of files

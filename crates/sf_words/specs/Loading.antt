@@ -1,5 +1,6 @@
--- Loading the files that a command reads in order, and the limits of their bytes: of one file, by its kind, and 2^30 bytes of all.
-use Rattle.std.specs.Prelude.{◌≡◌, ◌+◌, ◌^◌, ℕ, true, nat_lt, All, List, [], ◌∷◌, map, length, Contains, Option, Some, None, IfSome, if◌then◌else◌}
+-- Loading the files that a command reads in order, and the limits of their bytes: of one file, by its kind, and 2^30 bytes of all. Of a
+-- core file at most 2^30 bytes are read, and it may have more.
+use Rattle.std.specs.Prelude.{◌≡◌, ◌⊎◌, ◌+◌, ◌<◌, ◌^◌, ℕ, true, nat_lt, All, List, [], ◌∷◌, get_or, map, length, Contains, Option, Some, None, IfSome, if◌then◌else◌}
 use Rattle.std.specs.List.{zip}
 use Rattle.sf_base.specs.Contents.{contents_of}
 use Rattle.sf_base.specs.declared.loading.LoadFault.{LoadFault}
@@ -7,7 +8,7 @@ use Rattle.sf_base.specs.declared.loading.LoadFault.TheVariants as load
 use Rattle.sf_words.specs.declared.loaded.Loaded.{Loaded}
 use Rattle.sf_words.specs.Files.{FilesWords, counted_items, items_of}
 use Rattle.sf_words.specs.ItemRead.{is_read_whole, read_bytes}
-use Rattle.sf_words.specs.Items.{ItemWords, counted_bytes, item_of, limit_of, name_of, names_of}
+use Rattle.sf_words.specs.Items.{ItemWords, Core, counted_bytes, is_core, item_of, limit_of, name_of, names_of}
 use Rattle.sf_words.specs.declared.refusal.Limit.{Limit}
 use Rattle.sf_words.specs.declared.refusal.Limit.TheVariants.{File, Inputs, Total}
 use Rattle.sf_words.specs.declared.refusal.Refusal.{Refusal}
@@ -54,6 +55,20 @@ pub record Exceeds (contents : Contents) (items : List ItemWords) (limit : Limit
   pub bytes : AreBytesOf contents items files
   pub first : items_limit items files ≡ Some limit
 
+-- the item of this limit is a core file that has more bytes than may be read of one
+pub record IsLongCore (items : List ItemWords) (files : List (List ℕ)) (limit : Limit) : Type 0 where
+  pub item : ℕ
+  pub within : item < length items
+  pub core : is_core (get_or items item (Core [])) ≡ true
+  pub long : 2 ^ 30 < length (get_or files item [])
+  pub limit_is : limit ≡ File item
+
+-- more may have to be read of a core file among the items than is read of one
+pub record NeedsTooMuch (contents : Contents) (items : List ItemWords) (limit : Limit) : Type 0 where
+  pub files : List (List ℕ)
+  pub bytes : AreBytesOf contents items files
+  pub long : IsLongCore items files limit
+
 -- what was loaded: the items, and all bytes of the file of each
 abbrev pub loaded_items : List Loaded → List ItemWords
 loaded_items loaded = map (λ (file : Loaded). item_of file.item) loaded
@@ -77,11 +92,12 @@ IsLoadRefusal load.Read item name refused = IsReadOf name refused
 IsLoadRefusal (load.TooLong limit) item name refused = refused ≡ refusal.Limit (File item)
 IsLoadRefusal load.NoMemory item name refused = refused ≡ refusal.Memory
 
--- loading refuses these items: one could not be read, their bytes exceed a limit, or memory ran out
+-- loading refuses these items: one could not be read, their bytes exceed a limit, too much would have to be read of a core file, or
+-- memory ran out
 abbrev pub IsLoadingRefusal : Contents → (items : List ItemWords) → Refusal → Type 0
 IsLoadingRefusal contents items (refusal.Read name) = Contains (names_of items) name.now
 IsLoadingRefusal contents items refusal.Memory = Unit {0}
-IsLoadingRefusal contents items (refusal.Limit limit) = Exceeds contents items limit
+IsLoadingRefusal contents items (refusal.Limit limit) = Exceeds contents items limit ⊎ NeedsTooMuch contents items limit
 IsLoadingRefusal contents items (refusal.Input notice) = ⊥
 
 -- the item that could not be read is the file whose open or read failed last, where its name is known

@@ -1,8 +1,8 @@
 //! The files that a command reads, each of a kind with its own limits.
 
-ghost use Rattle.std.specs.Prelude.{◌≡◌};
+ghost use Rattle.std.specs.Prelude.{◌≡◌, ◌≤◌};
 ghost use Rattle.sf_words.specs.Items as spec;
-ghost use Rattle.sf_words.specs.Items.{counted_bytes, item_of, limit_of, name_of};
+ghost use Rattle.sf_words.specs.Items.{counted_bytes, item_of, limit_of, most_read, name_of};
 
 use crate::words::{InputFile, SectionFile};
 use sf_model::Form;
@@ -39,6 +39,18 @@ impl<'a> Item<'a> {
         match self {
             Item::Input(_) | Item::Mapped(_) => 1 << 28,
             Item::Section(_) => 1 << 29,
+            Item::Core(_) => 1 << 40,
+        }
+    }
+
+    /// Returns the most bytes that are read of a file of this kind: of a core file fewer than it may have.
+    pub fn most_read(&self) -> u64
+        ensures most { result ≡ most_read (item_of self.now) }
+        ensures within { result ≤ limit_of (item_of self.now) }
+    {
+        match self {
+            Item::Input(_) | Item::Mapped(_) => 1 << 28,
+            Item::Section(_) => 1 << 29,
             Item::Core(_) => 1 << 30,
         }
     }
@@ -53,6 +65,16 @@ impl<'a> Item<'a> {
                 Form::Bare(_) => false,
             },
             Item::Section(_) | Item::Core(_) | Item::Mapped(_) => false,
+        }
+    }
+
+    /// Returns whether the file is one that a process may have had mapped.
+    pub fn is_mapped(&self) -> bool
+        ensures { result ≡ spec.is_mapped (item_of self.now) }
+    {
+        match self {
+            Item::Mapped(_) => true,
+            Item::Input(_) | Item::Section(_) | Item::Core(_) => false,
         }
     }
 

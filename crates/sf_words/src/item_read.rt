@@ -4,13 +4,16 @@ ghost use Rattle.std.specs.Prelude.{◌≡◌, length};
 ghost use Rattle.sf_words.specs.ItemRead.{read_bytes};
 
 use core_parts::CoreRead;
+use elf_mapped::MappedRead;
 use sf_parts::FileRead;
 
 /// What was read of an item's file.
 #[derive(Drop)]
 pub enum ItemRead {
-    /// Of a file that is no core file: all, or the parts that are needed of an ELF file that is linked.
+    /// Of an input or a section: all, or the parts that are needed of an ELF file that is linked.
     File(FileRead),
+    /// Of a file that a process may have had mapped: all, or the parts that are needed.
+    Mapped(MappedRead),
     /// Of a core file: parts, or all.
     Core(CoreRead),
 }
@@ -22,6 +25,7 @@ impl ItemRead {
     {
         match self {
             ItemRead::File(file) => file.len(),
+            ItemRead::Mapped(mapped) => mapped.len(),
             ItemRead::Core(CoreRead::Parts(core)) => core.len(),
             ItemRead::Core(CoreRead::Whole(bytes)) => bytes.len() as u64,
         }

@@ -3,10 +3,10 @@
 //! [`input_file`] and [`section_file`] read a word that names a file. [`NamedInputs`] and [`NamedSections`] are lists of
 //! such words, each read when it is asked for, so that nothing is allocated before the files of a command are counted.
 //! Forms that commands share, such as [`section_and_inputs`], are in `forms.rt`. [`CommandFiles`] says which files a
-//! command makes and reads, and [`load_all`] loads them in order, each [`Item`] within the limits of its kind. A core file
-//! is read by its parts, as far as the run wants it, and [`load_cores_again`] loads the core files alone once more, where
-//! a run wants more of them. [`Refusal`] is why a run makes nothing. Words are defined in specs/Words.antt, the limits in
-//! specs/Loading.antt.
+//! command makes and reads, and [`load_all`] loads them in order, each [`Item`] within the limits of its kind. An ELF file
+//! that is linked or was mapped is read by the parts that are needed, and a core file as far as the run wants it:
+//! [`load_cores_again`] loads the core files alone once more, where a run wants more of them. [`Refusal`] is why a run makes
+//! nothing. Words are defined in specs/Words.antt, the limits in specs/Loading.antt.
 #![tactic(auto)]
 
 mod file_word;

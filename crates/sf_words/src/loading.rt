@@ -9,7 +9,7 @@ ghost use Rattle.sf_base.specs.declared.loading.LoadFault.TheVariants.{Read, Too
 ghost use Rattle.sf_parts.specs.Read.{file_of};
 ghost use Rattle.sf_words.specs.Files.{counted_items, files_of, item_names, items_of};
 ghost use Rattle.sf_words.specs.ItemRead.{is_read_whole, read_bytes};
-ghost use Rattle.sf_words.specs.Items.{is_core, item_of, limit_of, name_of, suits};
+ghost use Rattle.sf_words.specs.Items.{is_core, is_mapped, item_of, limit_of, most_read, name_of, suits};
 ghost use Rattle.sf_words.specs.Loading.{AreLoaded, AreReadWhole, IsLoadRefusal, IsLoadingRefusal, IsRead, NamesFailed, loaded_bytes, loaded_items};
 
 use crate::files::{CommandFiles, items};
@@ -18,6 +18,7 @@ use crate::item_read::ItemRead;
 use crate::loaded::Loaded;
 use crate::refusal::{Limit, Refusal};
 use core_parts::{Wanted, load_core};
+use elf_mapped::load_mapped;
 use sf_base::{Files, LoadFault, load};
 use sf_parts::{FileRead, load_parts};
 use std::alloc::Global;
@@ -36,10 +37,11 @@ pub(crate) fn not_loaded<'a>(fault: LoadFault, number: u32, item: &Item<'a>) -> 
     }
 }
 
-/// Loads the file of an item that is no core file: of an ELF file that is linked the parts that are needed, if it is clear
-/// that they are enough, and else the whole.
+/// Loads the file of an input or a section: of an ELF file that is linked the parts that are needed, if it is clear that they
+/// are enough, and else the whole.
 fn load_file<F: Files>(alloc: Global, files: &mut F, item: &Item<'_>) -> Result<FileRead, LoadFault>
     requires open { IsTrue (F.may_open files.old (name_of (item_of item.now))) }
+    requires not_mapped { is_mapped (item_of item.now) ≡ false }
     requires not_core { is_core (item_of item.now) ≡ false }
     ensures file { IfOk result (λ read. IfSome ((F.seen files.old).contents) (λ known.
         file_of read ≡ contents_of known (name_of (item_of item.now)))) }
@@ -63,7 +65,8 @@ fn load_file<F: Files>(alloc: Global, files: &mut F, item: &Item<'_>) -> Result<
     Ok(FileRead::Whole(load(alloc, files, name, limit)?))
 }
 
-/// Loads the file of an item: of a core file what is wanted, by its parts if it is clear that they are enough.
+/// Loads the file of an item: of a core file what is wanted, of a file that may have been mapped what a walk needs, both by
+/// their parts if it is clear that they are enough.
 pub(crate) fn load_item<F: Files>(
     alloc: Global,
     files: &mut F,
@@ -74,6 +77,7 @@ pub(crate) fn load_item<F: Files>(
     ensures file { IfOk result (λ read. IfSome ((F.seen files.old).contents) (λ known.
         read_bytes read ≡ contents_of known (name_of (item_of item.now)))) }
     ensures within { IfOk result (λ read. length (read_bytes read) ≤ limit_of (item_of item.now)) }
+    ensures short { IfOk result (λ read. is_read_whole read ≡ true → length (read_bytes read) ≤ most_read (item_of item.now)) }
     ensures suits { IfOk result (λ read. IsTrue (suits (item_of item.now) read)) }
     ensures whole { IfOk result (λ read. wanted.entry ≡ Wanted.Whole → is_read_whole read ≡ true) }
     ensures read { IsErrOf result LoadFault.Read →
@@ -81,15 +85,26 @@ pub(crate) fn load_item<F: Files>(
     ensures failed_name { IsErrOf result LoadFault.Read →
         IfSome ((F.seen files.new).failed_name) (λ failed. failed ≡ name_of (item_of item.now)) }
     ensures longer { (n : ℕ) → IsErrOf result (LoadFault.TooLong n) → IfSome ((F.seen files.old).contents) (λ known.
-        limit_of (item_of item.now) < length (contents_of known (name_of (item_of item.now)))) }
+        most_read (item_of item.now) < length (contents_of known (name_of (item_of item.now)))) }
     ensures may_open { F.may_open files.new ≡ F.may_open files.old }
     ensures may_create { F.may_create files.new ≡ F.may_create files.old }
     ensures reads { OnlyReads (F.seen files.old) (F.seen files.new) }
     ensures same { OnOk result (F.seen files.new ≡ F.seen files.old) }
 {
     if item.is_core() {
-        let core = load_core(alloc, files, item.name(), item.limit(), wanted)?;
+        let core = load_core(
+            alloc,
+            files,
+            item.name(),
+            item.limit(),
+            item.most_read(),
+            wanted,
+        )?;
         return Ok(ItemRead::Core(core));
+    }
+    if item.is_mapped() {
+        let mapped = load_mapped(alloc, files, item.name(), item.limit())?;
+        return Ok(ItemRead::Mapped(mapped));
     }
     Ok(ItemRead::File(load_file(alloc, files, item)?))
 }

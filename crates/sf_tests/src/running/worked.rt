@@ -85,16 +85,25 @@ pub const WORKED: [Worked; 13] = [
         section: Some(ONE_FUNCTION_SECTION),
         text: WALKED,
     },
+    // The file has no call frame information, so it is read again, whole.
     Worked {
         words: "procwalk c 64 a",
-        reads: &[("c", MAPPED_CORE, MAPPED_PARTS), ("a", MODULE, &[])],
+        reads: &[
+            ("c", MAPPED_CORE, MAPPED_PARTS),
+            ("a", MODULE, &[64, 192, 19]),
+            ("a", MODULE, &[]),
+        ],
         section: None,
         text: "thread 0 pid 100\n  #0 pc 0x1004 cfa 0x7010\n  #1 pc 0x1005 cfa 0x7020\n  #2 pc 0x0\n  \
                stop outside 0xffffffffffffffff\nthread 1 pid 101\n  #0 pc 0x1000 cfa 0x9008\n  stop unreadable 0x9000\n",
     },
+    // The file header, the section headers, their names, the call frame information, and the program header.
     Worked {
         words: "procbacktrace c 64 a",
-        reads: &[("c", MAPPED_CORE, MAPPED_PARTS), ("a", CALLS, &[])],
+        reads: &[
+            ("c", MAPPED_CORE, MAPPED_PARTS),
+            ("a", CALLS, &[64, 192, 21, 92, 56]),
+        ],
         section: None,
         text: "thread 0 pid 100\n  #0 pc 0x1004 cfa 0x7010 a+0x4\n  #1 pc 0x1005 cfa 0x7020 a+0x5\n  #2 pc 0x0\n  \
                stop outside 0xffffffffffffffff\nthread 1 pid 101\n  #0 pc 0x1000 cfa 0x9008 a+0x0\n  stop unreadable 0x9000\n",

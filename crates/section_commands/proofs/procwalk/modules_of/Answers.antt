@@ -3,6 +3,7 @@ use Rattle.std.specs.String.{string_bytes}
 use Rattle.std.proofs.Common.{◌≡◌, ◌<◌, ◌^◌, ◌+◌, ℕ, List, [], map, length, get_or, true, false, ap, sym, subst, ◌∙◌, Ok, Err, arith}
 use Rattle.std.proofs.lemmas.List.{length-map}
 use Rattle.std.proofs.lemmas.List.Elements.{All-push}
+use Rattle.elf_mapped.specs.Program.{all_bytes}
 use Rattle.sf_modules.specs.declared.fault.ModuleFault.{ModuleFault}
 use Rattle.sf_modules.specs.Fault.{IsFaultOf}
 use Rattle.sf_modules.specs.Module.{module_view}
@@ -12,7 +13,7 @@ use Rattle.sf_modules.specs.ReadFile.{AreRead, IsRead}
 use Rattle.sf_words.specs.ItemRead.{read_bytes}
 use Rattle.sf_words.specs.declared.item.Item.{Item}
 use Rattle.sf_words.specs.declared.loaded.Loaded.{Loaded}
-use Rattle.sf_words.specs.Items.{item_of, may_be_by_parts}
+use Rattle.sf_words.specs.Items.{is_mapped, item_of}
 use Rattle.sf_words.specs.Loading.{loaded_bytes}
 use Rattle.section_commands.specs.Process.{File}
 use Rattle.section_commands.specs.Procwalk.{IsModuleOf, module_file_check}
@@ -28,8 +29,8 @@ unreachable-requires c =
     let name = a_mapped_file (map string_bytes c.args.names.now) c.args.files.now c.loop-file.file-index c.file-item.result c.requires.items lt in
     c.in_default.not-Mapped name.0 (ap (λ (l : Loaded). l.item) c.file-item.is ∙ name.1)
 
-pub bytes-bytes-requires : goal.bytes-bytes-requires
-bytes-bytes-requires c = ap (λ (i : Item). may_be_by_parts (item_of i)) c.in-Mapped.is
+pub mapped-bytes-requires : goal.mapped-bytes-requires
+mapped-bytes-requires c = ap (λ (i : Item). is_mapped (item_of i)) c.in-Mapped.is
 
 pub read_module_once-requires-clause-small : goal.read_module_once-requires-clause-small
 read_module_once-requires-clause-small c =
@@ -38,7 +39,7 @@ read_module_once-requires-clause-small c =
     let lt : k < length files = omega arith in
     let count = length-map files (λ (l : Loaded). read_bytes l.read) in
     let short : length (get_or (loaded_bytes files) k []) < 2 ^ 32 = c.requires.small k [] (omega (arith, lt, count)) in
-    let is : c.bytes-bytes.result.now ≡ get_or (loaded_bytes files) k [] = c.bytes-bytes.ensures ∙ ap (λ (l : Loaded). read_bytes l.read) c.file-item.is ∙ sym (bytes_at files k c.file-item.result lt) in
+    let is : all_bytes c.mapped-bytes.result ≡ get_or (loaded_bytes files) k [] = c.mapped-bytes.ensures ∙ ap (λ (l : Loaded). read_bytes l.read) c.file-item.is ∙ sym (bytes_at files k c.file-item.result lt) in
     let long = ap length is in
     omega (arith, short, long)
 
@@ -49,11 +50,11 @@ loop-file-preserved c =
     let k = c.loop-file.file-index in
     let lt : k < length files = omega arith in
     let p = process_view c.args.process.now in
-    let is_mapped = ap (λ (l : Loaded). l.item) (sym c.file-item.is) ∙ c.in-Mapped.is in
-    let here = mapped_turn names files k c.file-item.result c.in-Mapped.name c.requires.items lt is_mapped in
+    let here_mapped = ap (λ (l : Loaded). l.item) (sym c.file-item.is) ∙ c.in-Mapped.is in
+    let here = mapped_turn names files k c.file-item.result c.in-Mapped.name c.requires.items lt here_mapped in
     let bytes = read_bytes (get_or files k c.file-item.result).read in
-    let read : (c.as_bytes-word.result.now, c.bytes-bytes.result.now) ≡ (c.in-Mapped.name.now, bytes) =
-    ap (λ (b : List ℕ). (c.as_bytes-word.result.now, b)) (c.bytes-bytes.ensures ∙ ap (λ (l : Loaded). read_bytes l.read) c.file-item.is) ∙ ap (λ (n : List ℕ). (n, bytes)) c.as_bytes-word.ensures.value in
+    let read : (c.as_bytes-word.result.now, all_bytes c.mapped-bytes.result) ≡ (c.in-Mapped.name.now, bytes) =
+    ap (λ (b : List ℕ). (c.as_bytes-word.result.now, b)) (c.mapped-bytes.ensures ∙ ap (λ (l : Loaded). read_bytes l.read) c.file-item.is) ∙ ap (λ (n : List ℕ). (n, bytes)) c.as_bytes-word.ensures.value in
     let check = subst (λ (f : File). module_file_check p f ≡ Ok tt) read c.in-Ok.ensures.exact in
     let is = subst (λ (f : File). IsModuleOf p f (module_view c.in-Ok.module)) read c.in-Ok.ensures.sound in
     record {
@@ -63,7 +64,7 @@ loop-file-preserved c =
           c.in_ok-push-in-Ok.ensures.items;
       read =
           subst (λ (fs : List ReadFile). AreRead p fs) (sym c.in_ok-push-in-Ok-2.ensures.items)
-          (All-push (IsRead p) c.loop-file.read.items (record { word = c.as_bytes-word.result; bytes = c.bytes-bytes.result; «module» = c.in-Ok.module }) c.loop-file.invariant.read
+          (All-push (IsRead p) c.loop-file.read.items (record { word = c.as_bytes-word.result; bytes = c.mapped-bytes.result; «module» = c.in-Ok.module }) c.loop-file.invariant.read
           (record { fine = c.in-Ok.ensures.exact; is = c.in-Ok.ensures.sound }));
     }
 
@@ -74,11 +75,11 @@ returns-in-Err-clause-refused c =
     let k = c.loop-file.file-index in
     let lt : k < length files = omega arith in
     let p = process_view c.args.process.now in
-    let is_mapped = ap (λ (l : Loaded). l.item) (sym c.file-item.is) ∙ c.in-Mapped.is in
-    let here = mapped_turn names files k c.file-item.result c.in-Mapped.name c.requires.items lt is_mapped in
+    let here_mapped = ap (λ (l : Loaded). l.item) (sym c.file-item.is) ∙ c.in-Mapped.is in
+    let here = mapped_turn names files k c.file-item.result c.in-Mapped.name c.requires.items lt here_mapped in
     let bytes = read_bytes (get_or files k c.file-item.result).read in
-    let read : (c.as_bytes-word.result.now, c.bytes-bytes.result.now) ≡ (c.in-Mapped.name.now, bytes) =
-    ap (λ (b : List ℕ). (c.as_bytes-word.result.now, b)) (c.bytes-bytes.ensures ∙ ap (λ (l : Loaded). read_bytes l.read) c.file-item.is) ∙ ap (λ (n : List ℕ). (n, bytes)) c.as_bytes-word.ensures.value in
+    let read : (c.as_bytes-word.result.now, all_bytes c.mapped-bytes.result) ≡ (c.in-Mapped.name.now, bytes) =
+    ap (λ (b : List ℕ). (c.as_bytes-word.result.now, b)) (c.mapped-bytes.ensures ∙ ap (λ (l : Loaded). read_bytes l.read) c.file-item.is) ∙ ap (λ (n : List ℕ). (n, bytes)) c.as_bytes-word.ensures.value in
     let found = subst (λ (f : File). IsFaultOf (module_file_check p f) c.in-Err.fault) read c.in-Err.ensures.exact in
     let number : c.len.result + 1 ≡ k + 1 = omega (arith, c.len.ensures, c.loop-file.modules.ok.0, c.loop-file.invariant.count) in
     unread p (zip names (loaded_bytes files)) (k + 1) (c.len.result + 1) _ (map module_view c.loop-file.modules.items) _ _ c.in-Err.fault c.unread_module.result c.loop-file.invariant.reading here found number

@@ -1,12 +1,10 @@
 use Rattle.std.proofs.Common.{◌≡◌, List, ℕ, Bool, true, None, Result, Ok, ap, sym, subst, ◌∙◌}
 use Rattle.sf_model.specs.declared.machine.Arch.{Arch}
-use Rattle.sf_model.specs.Walk.{section_walk}
 use Rattle.elf_read.specs.Header.{arch_of}
 use Rattle.sf_decode.specs.declared.fault.DecodeFault.{DecodeFault}
 use Rattle.sf_decode.specs.View.{table_of}
 use Rattle.core_notes.specs.declared.fault.CoreFault.{CoreFault}
-use Rattle.core_notes.specs.Checks.{core_check, file_threads}
-use Rattle.core_notes.specs.Memory.{file_regions}
+use Rattle.core_notes.specs.Checks.{core_check}
 use Rattle.core_parts.specs.Loaded.{core_read_bytes}
 use Rattle.sf_merge.specs.Merging.{same_arch}
 use Rattle.section_commands.specs.declared.made.Outcome.TheVariants.{Done}

@@ -9,7 +9,7 @@ use Rattle.std.specs.Option.{option_map}
 use Rattle.core_notes.specs.Memory.{file_regions}
 use Rattle.core_parts.specs.Input.{map_file}
 use Rattle.core_notes.specs.Note.{note_view}
-use Rattle.elf_read.specs.Views.{file}
+use Rattle.elf_mapped.specs.Program.{program_bytes}
 use Rattle.sf_modules.specs.Build.{descriptor_address, descriptor_agrees}
 use Rattle.sf_modules.proofs.build.descriptor_agrees.Goals as goal
 
@@ -32,4 +32,4 @@ unfolding descriptor_agrees
 returns-then-is_empty-clause-agrees c =
     let n = note_view c.args.note.now in
     let none : length n.descriptor.left ≡ 0 = eqb-true (length n.descriptor.left) 0 (sym c.is_empty.ensures ∙ c.if-is_empty.true) in
-    empty_agrees (file_regions (map_file c.args.memory.now)) (descriptor_address (file c.args.elf.now) c.args.base c.args.i n) n.descriptor.left none
+    empty_agrees (file_regions (map_file c.args.memory.now)) (descriptor_address (program_bytes c.args.elf.now) c.args.base c.args.i n) n.descriptor.left none

@@ -1,5 +1,5 @@
 use Rattle.std.proofs.Common.{◌≡◌, ℕ, List, true, Some, Ok, sym, ap, subst, ◌∙◌}
-use Rattle.elf_read.specs.Views.{file}
+use Rattle.elf_mapped.specs.Program.{program_bytes}
 use Rattle.sf_modules.specs.Build.{is_same_build}
 use Rattle.sf_modules.specs.Entry.{mapping_view}
 use Rattle.sf_modules.specs.Match.{matching_entry}
@@ -13,8 +13,8 @@ pub returns-clause-value : goal.returns-clause-value
 returns-clause-value c =
     let p = process_view c.args.process.now in
     let word = c.args.word.now in
-    let f = file c.args.elf.now in
-    let g = file c.in_ok-program.program.elf in
+    let f = program_bytes c.args.elf.now in
+    let g = program_bytes c.in_ok-program.program.elf in
     let load = c.in_ok-program.program.load in
     let e = mapping_view c.in_ok-entry.entry.now in
     let same : g ≡ f = c.in_ok-program.ensures.file in

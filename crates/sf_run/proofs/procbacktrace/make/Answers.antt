@@ -1,6 +1,6 @@
 use Rattle.std.specs.List.{zip}
 use Rattle.std.specs.String.{string_bytes}
-use Rattle.std.proofs.Common.{◌≡◌, ◌<◌, ◌≤◌, ◌^◌, ◌-◌, ℕ, All, List, [], map, length, take, drop, get_or, true, refl, ap, sym, subst, ◌∙◌, arith}
+use Rattle.std.proofs.Common.{◌≡◌, ◌<◌, ◌≤◌, ◌-◌, ℕ, All, List, [], map, length, take, drop, get_or, true, refl, ap, sym, subst, ◌∙◌, arith}
 use Rattle.core_notes.specs.Checks.{core_check}
 use Rattle.core_parts.specs.Loaded.{core_read_bytes}
 use Rattle.sf_words.specs.ItemRead.{is_read_whole, read_bytes}
@@ -26,19 +26,12 @@ core_walked-requires-clause-few c =
     let count : length (drop 1 loaded) ≡ length (map Mapped names) = as_many (drop 1 loaded) (map Mapped names) (later_items loaded (Core c.args.named.now.core.now) (map Mapped names) c.requires.items) in
     subst (λ (files : List Loaded). length files ≤ 512) (sym (later_files loaded)) (omega (arith, few, count))
 
-pub core_walked-requires-clause-short : goal.core_walked-requires-clause-short
-core_walked-requires-clause-short c =
-    let loaded = c.args.loaded.now in
-    let limits = within_limits (procwalk_files (procwalk_of c.args.named.now)) (loaded_bytes loaded) c.requires.within in
-    let short = loaded_short c.args.named.now.core.now (map string_bytes c.args.named.now.files.now) loaded c.core-item.result c.requires.items limits.1 in
-    subst (λ (b : List ℕ). length b < 2 ^ 32) (sym (c.core.ensures.bytes ∙ ap (λ (l : Loaded). read_bytes l.read) c.core-item.is)) short.0
-
 pub core_walked-requires-clause-small : goal.core_walked-requires-clause-small
 core_walked-requires-clause-small c =
     let loaded = c.args.loaded.now in
     let limits = within_limits (procwalk_files (procwalk_of c.args.named.now)) (loaded_bytes loaded) c.requires.within in
-    let short = loaded_short c.args.named.now.core.now (map string_bytes c.args.named.now.files.now) loaded c.core-item.result c.requires.items limits.1 in
-    subst (λ (files : List Loaded). All IsShort (loaded_bytes files)) (sym (later_files loaded)) short.1
+    let short = loaded_short c.args.named.now.core.now (map string_bytes c.args.named.now.files.now) loaded c.requires.items limits.1 in
+    subst (λ (files : List Loaded). All IsShort (loaded_bytes files)) (sym (later_files loaded)) short
 
 pub core-requires : goal.core-requires
 core-requires c = first_tested is_core true c.args.loaded.now _ _ c.core-item.result _ c.requires.items c.core-item.is refl

@@ -3,6 +3,7 @@ use Rattle.std.specs.String.{string_bytes}
 use Rattle.std.proofs.Common.{◌≡◌, ◌<◌, ◌^◌, ◌+◌, ℕ, true, List, [], ◌∷◌, map, length, get_or, refl, ap, sym, subst, ◌∙◌, Ok, Err, arith}
 use Rattle.std.proofs.lemmas.List.{length-append, length-map}
 use Rattle.std.proofs.lemmas.Result.{err_from_is_err_and}
+use Rattle.elf_mapped.specs.Program.{all_bytes}
 use Rattle.sf_modules.specs.Match.{is_candidate}
 use Rattle.sf_modules.specs.Process.{process_view}
 use Rattle.sf_words.specs.ItemRead.{read_bytes}
@@ -38,7 +39,7 @@ table_of-requires c =
     let lt : k < length files = c.loop-file-test.true in
     let count = length-map files (λ (l : Loaded). read_bytes l.read) in
     let short : length (get_or (loaded_bytes files) k []) < 2 ^ 32 = c.requires.small k [] (omega (arith, lt, count)) in
-    let is : c.bytes.result.now ≡ get_or (loaded_bytes files) k [] = c.bytes.ensures ∙ ap (λ (l : Loaded). read_bytes l.read) c.file-item.is ∙ sym (bytes_at files k c.file-item.result lt) in
+    let is : all_bytes c.mapped.result ≡ get_or (loaded_bytes files) k [] = c.mapped.ensures ∙ ap (λ (l : Loaded). read_bytes l.read) c.file-item.is ∙ sym (bytes_at files k c.file-item.result lt) in
     let long = ap length is in
     omega (arith, short, long)
 
@@ -52,12 +53,12 @@ returns-in_err-table_of-clause-refused c =
     let word = c.in-Mapped.word.now in
     let is_mapped = ap (λ (l : Loaded). l.item) (sym c.file-item.is) ∙ c.in-Mapped.is in
     let here = mapped_turn names files k c.file-item.result c.in-Mapped.word c.requires.items c.loop-file-test.true is_mapped in
-    let bytes : c.bytes.result.now ≡ read_bytes (get_or files k c.file-item.result).read = c.bytes.ensures ∙ ap (λ (l : Loaded). read_bytes l.read) c.file-item.is in
+    let bytes : all_bytes c.mapped.result ≡ read_bytes (get_or files k c.file-item.result).read = c.mapped.ensures ∙ ap (λ (l : Loaded). read_bytes l.read) c.file-item.is in
     let named : is_candidate word p.entries ≡ true = ap (λ (w : List ℕ). is_candidate w p.entries) (sym c.as_bytes.ensures.value) ∙ sym c.is_mapped_name.ensures ∙ c.if-is_mapped_name.true in
     let number : c.loop-file.item + 1 ≡ k + 1 = ap (λ (n : ℕ). n + 1) c.loop-file.invariant.count in
-    rw (e.1, e.2) (unmade_as (λ (coming : Coming). FileComes p (c.loop-file.item + 1) (word, c.bytes.result.now) (Err coming)) (λ (coming : Coming). FilesCome p 1 (zip names (loaded_bytes files)) (Err coming))
+    rw (e.1, e.2) (unmade_as (λ (coming : Coming). FileComes p (c.loop-file.item + 1) (word, all_bytes c.mapped.result) (Err coming)) (λ (coming : Coming). FilesCome p 1 (zip names (loaded_bytes files)) (Err coming))
     (λ coming h. refused_at p (zip names (loaded_bytes files)) (k + 1) (word, read_bytes (get_or files k c.file-item.result).read) _ _ c.loop-file.tables.items coming here named c.loop-file.invariant.tabled
-    (subst (λ (b : List ℕ). FileComes p (k + 1) (word, b) (Err coming)) bytes (subst (λ (n : ℕ). FileComes p n (word, c.bytes.result.now) (Err coming)) number h)))
+    (subst (λ (b : List ℕ). FileComes p (k + 1) (word, b) (Err coming)) bytes (subst (λ (n : ℕ). FileComes p n (word, all_bytes c.mapped.result) (Err coming)) number h)))
     c.in_err-table_of.field-0.0 c.in_err-table_of.ensures.refused)
 
 pub loop-file-preserved : goal.loop-file-preserved
@@ -76,7 +77,7 @@ loop-file-preserved c =
     elim c.if-is_mapped_name.branch [
       | then-is_mapped_name+in_ok-table_of+in_ok-push w ↦
           let made = w.in_ok-table_of.ensures.made in
-          let bytes : w.bytes.result.now ≡ read = w.bytes.ensures ∙ ap (λ (l : Loaded). read_bytes l.read) c.file-item.is in
+          let bytes : all_bytes w.mapped.result ≡ read = w.mapped.ensures ∙ ap (λ (l : Loaded). read_bytes l.read) c.file-item.is in
           let same = ap (λ ts. ts.items) w.tables-is in
           let long = ap length (same ∙ w.in_ok-push.ensures.items) in
           let added = length-append c.loop-file.tables.items (w.in_ok-table_of.field-0 ∷ []) in
@@ -85,7 +86,7 @@ loop-file-preserved c =
             few = omega (long, added, c.loop-file.invariant.few, arith);
             tabled =
                 one_tabled p all (k + 1) (word, read) _ _ c.loop-file.tables.items _ made.0 w.in_ok-table_of.field-0 here (test ∙ w.if-is_mapped_name.true)
-                (subst (λ (b : List ℕ). FileComes p (k + 1) (word, b) (Ok made.0)) bytes (subst (λ (n : ℕ). FileComes p n (word, w.bytes.result.now) (Ok made.0)) number made.1)) made.2
+                (subst (λ (b : List ℕ). FileComes p (k + 1) (word, b) (Ok made.0)) bytes (subst (λ (n : ℕ). FileComes p n (word, all_bytes w.mapped.result) (Ok made.0)) number made.1)) made.2
                 (same ∙ w.in_ok-push.ensures.items) c.loop-file.invariant.tabled;
           }
       | else-is_mapped_name w ↦

@@ -1,5 +1,5 @@
 use Rattle.std.specs.Prelude.{IfSome, IsTrue}
-use Rattle.std.proofs.Common.{◌≡◌, ◌<◌, ◌≤◌, ℕ, Bool, List, Option, Some, None, Bor, refl, ap, sym, subst, arith}
+use Rattle.std.proofs.Common.{◌≡◌, ◌<◌, ◌≤◌, inl, ℕ, Bool, List, Option, Some, None, Bor, refl, ap, sym, subst, arith}
 use Rattle.std.specs.Option.{option_map}
 use Rattle.sf_words.specs.declared.refusal.Limit.TheVariants.{Inputs}
 use Rattle.sf_words.specs.declared.refusal.Refusal.TheVariants as refusal
@@ -38,7 +38,7 @@ returns-then-len-gt-ITEM_COUNT-clause-ends g c =
     let files = g.F.Files.seen c.args.files.now in
     let out = g.O.Sink.seen c.args.out.now in
     ends_from_tells (refusal.Limit Inputs) c.tell.result command (seen files out (g.E.Sink.seen c.args.err.now)) (seen files out (g.E.Sink.seen c.tell.new.err)) (no_reads files) refl
-    (λ read. absurd read) tt (too_many_runs command files.contents many) c.tell.ensures
+    (λ read. absurd read) tt (inl (too_many_runs command files.contents many)) c.tell.ensures
 
 pub returns-clause-counted : goal.returns-clause-counted
 returns-clause-counted g c many =

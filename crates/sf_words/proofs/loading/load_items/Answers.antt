@@ -1,4 +1,4 @@
-use Rattle.std.proofs.Common.{◌≡◌, ◌≤◌, ◌<◌, ◌^◌, ◌+◌, ℕ, rules, List, Err, map, length, take, get_or, refl, ap, sym, subst, ◌∙◌, arith}
+use Rattle.std.proofs.Common.{◌≡◌, inl, ◌≤◌, ◌<◌, ◌^◌, ◌+◌, ℕ, rules, List, Err, map, length, take, get_or, refl, ap, sym, subst, ◌∙◌, arith}
 use Rattle.std.proofs.lemmas.List.{length-map}
 use lib.Seq.{take-length}
 use Rattle.sf_base.specs.Seen.{FilesSeen}
@@ -42,8 +42,8 @@ returns-in-Err-clause-failed_name g c =
 pub returns-then-total-gt-TOTAL_LIMIT-clause-refused : goal.returns-then-total-gt-TOTAL_LIMIT-clause-refused
 returns-then-total-gt-TOTAL_LIMIT-clause-refused g c =
     let lt : c.loop-item.item-index < length (map item_of c.args.items.now) = subst (λ (n : ℕ). c.loop-item.item-index < n) (sym (length-map c.args.items.now item_of)) (omega arith) in
-    long_in_all_at _ _ c.args.items.now c.loop-item.item-index _ (loaded_bytes c.loop-item.loaded.items) c.loop-item.total (read_bytes c.in-Ok.read) c.len.result c.counted-total.result
-    (ap (λ (f : FilesSeen). f.contents) c.loop-item.invariant.same) c.loop-item.invariant.begun lt c.in-Ok.ensures.within c.len.ensures c.counted-total.ensures c.if-total-gt-TOTAL_LIMIT.true c.in-Ok.ensures.file
+    inl (long_in_all_at _ _ c.args.items.now c.loop-item.item-index _ (loaded_bytes c.loop-item.loaded.items) c.loop-item.total (read_bytes c.in-Ok.read) c.len.result c.counted-total.result
+    (ap (λ (f : FilesSeen). f.contents) c.loop-item.invariant.same) c.loop-item.invariant.begun lt c.in-Ok.ensures.within c.len.ensures c.counted-total.ensures c.if-total-gt-TOTAL_LIMIT.true c.in-Ok.ensures.file)
 
 pub loop-item-preserved : goal.loop-item-preserved
 loop-item-preserved g c =

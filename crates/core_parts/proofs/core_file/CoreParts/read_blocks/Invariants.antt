@@ -1,5 +1,6 @@
-use Rattle.std.proofs.Common.{◌≡◌, IsTrue}
+use Rattle.std.proofs.Common.{◌≡◌, ◌+◌, IsTrue}
 use Rattle.std.specs.Option.{IfSome}
+use Rattle.core_parts.specs.Loaded.{parts_count}
 use Rattle.core_parts.specs.Whole.{IsWholeOf}
 use Rattle.core_parts.proofs.core_file.CoreParts.read_blocks.Given as goal
 
@@ -9,6 +10,7 @@ invariant-loop-address g l =
     let files = g.F.Files in
     record {
       whole : IfSome ((files.seen l.fn.files).contents) (λ _. IsWholeOf l.self.file (files.whole l.fn.files));
+      counted : parts_count l.self.file.parts.items + l.left ≡ parts_count l.fn.self.file.parts.items + l.fn.left;
       len : l.self.file.len ≡ l.fn.self.file.len;
       same_file : files.whole l.files ≡ files.whole l.fn.files;
       opened : IsTrue (files.opened l.files);

@@ -1,6 +1,6 @@
 use Rattle.std.specs.List.{zip}
 use Rattle.std.specs.String.{string_bytes}
-use Rattle.std.proofs.Common.{◌≡◌, ◌<◌, ◌≤◌, ◌^◌, ◌-◌, ℕ, All, List, [], map, length, take, drop, get_or, true, refl, ap, sym, subst, ◌∙◌, arith}
+use Rattle.std.proofs.Common.{◌≡◌, ◌<◌, ◌≤◌, ◌-◌, ℕ, All, List, [], map, length, take, drop, get_or, true, refl, ap, sym, subst, ◌∙◌, arith}
 use Rattle.core_notes.specs.Checks.{core_check}
 use Rattle.sf_words.specs.ItemRead.{is_read_whole, read_bytes}
 use Rattle.sf_words.specs.declared.loaded.Loaded.{Loaded}
@@ -28,19 +28,12 @@ procwalk_made-requires-clause-few c =
     let count : length (drop 1 loaded) ≡ length (map Mapped names) = as_many (drop 1 loaded) (map Mapped names) (later_items loaded (Core c.args.self.now.core.now) (map Mapped names) c.requires.items) in
     subst (λ (files : List Loaded). length files ≤ 512) (sym (later_files loaded)) (omega (arith, few, count))
 
-pub procwalk_made-requires-clause-short : goal.procwalk_made-requires-clause-short
-procwalk_made-requires-clause-short c =
-    let loaded = c.args.loaded.now in
-    let limits = within_limits (procwalk_files (procwalk_of c.args.self.now)) (loaded_bytes loaded) c.requires.within in
-    let short = loaded_short c.args.self.now.core.now (map string_bytes c.args.self.now.files.now) loaded c.core-item.result c.requires.items limits.1 in
-    subst (λ (b : List ℕ). length b < 2 ^ 32) (sym (c.core.ensures.bytes ∙ ap (λ (l : Loaded). read_bytes l.read) c.core-item.is)) short.0
-
 pub procwalk_made-requires-clause-small : goal.procwalk_made-requires-clause-small
 procwalk_made-requires-clause-small c =
     let loaded = c.args.loaded.now in
     let limits = within_limits (procwalk_files (procwalk_of c.args.self.now)) (loaded_bytes loaded) c.requires.within in
-    let short = loaded_short c.args.self.now.core.now (map string_bytes c.args.self.now.files.now) loaded c.core-item.result c.requires.items limits.1 in
-    subst (λ (files : List Loaded). All IsShort (loaded_bytes files)) (sym (later_files loaded)) short.1
+    let short = loaded_short c.args.self.now.core.now (map string_bytes c.args.self.now.files.now) loaded c.requires.items limits.1 in
+    subst (λ (files : List Loaded). All IsShort (loaded_bytes files)) (sym (later_files loaded)) short
 
 pub returns-clause-comes : goal.returns-clause-comes
 returns-clause-comes c =

@@ -1,4 +1,4 @@
-use Rattle.std.proofs.Common.{◌≡◌, ◌≤◌, ◌^◌, ℕ, List, Some, Result, length, map, true, refl, ap, sym, subst, ◌∙◌, arith}
+use Rattle.std.proofs.Common.{◌≡◌, ℕ, List, Some, Result, map, true, refl, ap, sym, subst, ◌∙◌}
 use Rattle.sf_model.specs.declared.machine.Arch.{Arch}
 use Rattle.sf_model.specs.Section.{Section}
 use Rattle.sf_model.specs.Walk.{section_walk}
@@ -8,7 +8,6 @@ use Rattle.core_notes.specs.Checks.{file_threads}
 use Rattle.core_notes.specs.Memory.{file_regions}
 use Rattle.sf_asm.specs.Answers.{IsFirstLinked, IsLinked}
 use Rattle.sf_asm.specs.Functions.{Object, object_of}
-use Rattle.sf_words.specs.ItemRead.{read_bytes}
 use Rattle.core_parts.specs.Loaded.{core_read_bytes}
 use Rattle.sf_words.specs.Items.{Core, is_core}
 use Rattle.sf_words.specs.Loading.{loaded_bytes}
@@ -22,20 +21,12 @@ use Rattle.sf_run.specs.Inputs.{objects_in}
 use Rattle.sf_run.specs.Linked.{LinkedComes}
 use Rattle.sf_run.proofs.Asked.{backtrace_inputs}
 use Rattle.sf_run.proofs.Backtraces.{linked_walks, unlinked_walks, unread_comes}
-use Rattle.sf_run.proofs.Inputs.{CanBeLinked, first_fits, later_fit, later_of, with_first}
+use Rattle.sf_run.proofs.Inputs.{CanBeLinked, later_fit, later_of, with_first}
 use Rattle.sf_run.proofs.LinkedComes.{linked_comes}
 use Rattle.sf_run.proofs.backtrace.Backtrace.make.Goals as goal
 
 pub core-requires : goal.core-requires
 core-requires c = first_tested is_core true c.args.loaded.now _ _ c.core-item.result _ c.requires.items c.core-item.is refl
-
-pub parse-requires : goal.parse-requires
-parse-requires c =
-    let backtrace = backtrace_of c.args.self.now in
-    let h = later_of c.args.loaded.now c.core-item.result (Core backtrace.core) backtrace.inputs c.in-len1-up.len_at_least c.core-item.is c.requires.items in
-    let short : length (read_bytes c.core-item.result.read) ≤ 2 ^ 30 = first_fits (Some backtrace.out.name) (Core backtrace.core) h c.requires.within in
-    let same = ap length c.core.ensures.bytes in
-    λ whole. omega (arith, short, same)
 
 pub inputs_in-requires : goal.inputs_in-requires
 inputs_in-requires c =
