@@ -1,14 +1,28 @@
-//! What linking a program costs plain Rust, for `./x bench`: reads one program or shared object for AMD64 and writes the SFrame
-//! section of its functions, of the usual call frame information alone. It checks nothing, names no fault, and stops by a panic where a
-//! file is unusual. Its times count only where its section is the one that `sf_tool link` writes, which `./x bench` compares.
+//! What linking and verifying a program cost plain Rust, for `./x bench`: reads one program or shared object for AMD64, and writes the
+//! SFrame section of its functions or compares one with them, of the usual call frame information alone. It checks no input, names no
+//! fault, and stops by a panic where a file is unusual. Its times count only where its section is the one that `sf_tool` writes, and
+//! where it tells the section of `sf_tool link` from one with another row: `./x bench` compares both.
 //!
-//!     plain whole OUT AT FILE     reads the whole file
-//!     plain parts OUT AT FILE     reads its header, its section headers, their names and the call frame information
+//!     plain link FORM OUT AT FILE          writes the section of the functions
+//!     plain linkplt FORM OUT AT FILE       the same, with two functions for each plain lazy procedure linkage table
+//!     plain verify FORM SECTION AT FILE    ends with 1 unless each function of a section has the rows that the file gives
+//!
+//! FORM is `whole`, which reads the whole file, or `parts`, which reads its header, its section headers, their names and the call
+//! frame information.
 
 use std::borrow::Cow;
 use std::collections::HashMap;
 use std::os::unix::fs::FileExt;
-use std::{env, fs};
+use std::{env, fs, process};
+
+/// The bits of a function's information for a plain function, and for one of repeated blocks of 16 bytes.
+const PLAIN: u32 = 0;
+const BLOCKS: u32 = 0x10 | 16 << 8;
+
+/// The instructions of a plain lazy procedure linkage table.
+const PLT: [u8; 19] = [
+    0x0e, 16, 0x46, 0x0e, 24, 0x4a, 0x0f, 11, 0x77, 8, 0x80, 0, 0x3f, 0x1a, 0x3b, 0x2a, 0x33, 0x24, 0x22,
+];
 
 /// The rules of a row that SFrame keeps.
 #[derive(Clone, Copy, PartialEq)]
@@ -42,6 +56,17 @@ struct Common {
     initial: Columns,
 }
 
+/// What a record describes.
+struct Described<'a> {
+    start: u64,
+    size: u64,
+    /// Whether SFrame can express all rows.
+    kept: bool,
+    rows: &'a [(u64, Columns)],
+    common: Common,
+    instructions: &'a [u8],
+}
+
 /// A function whose rows lie in the list of all.
 struct Function {
     start: u64,
@@ -49,7 +74,22 @@ struct Function {
     rows: u32,
     place: u32,
     length: u32,
-    row_type: u8,
+    information: u32,
+}
+
+/// Functions, and the bytes of their rows.
+struct Linked {
+    functions: Vec<Function>,
+    stored: Vec<u8>,
+}
+
+/// A section that is read.
+struct Section<'a> {
+    bytes: &'a [u8],
+    address: u64,
+    count: usize,
+    functions: usize,
+    rows: usize,
 }
 
 /// Bytes that are read from the front.
@@ -109,6 +149,34 @@ impl<'a> Reader<'a> {
                 };
             }
         }
+    }
+
+    /// A number with a sign, of 1, 2 or 4 bytes.
+    fn offset(&mut self, size: u8) -> i64 {
+        match size {
+            0 => i64::from(self.u8() as i8),
+            1 => i64::from(self.u16() as i16),
+            _ => i64::from(self.u32() as i32),
+        }
+    }
+
+    /// A row, with its start.
+    fn row(&mut self, row_type: u32) -> (u64, Columns) {
+        let start = match row_type {
+            0 => u64::from(self.u8()),
+            1 => u64::from(self.u16()),
+            _ => u64::from(self.u32()),
+        };
+        let information = self.u8();
+        let size = information >> 5 & 3;
+        let columns = Columns {
+            base: 6 + u64::from(information & 1),
+            cfa: self.offset(size),
+            frame_pointer: (information >> 1 & 0x0f == 2).then(|| self.offset(size)),
+            return_address_saved: true,
+            expressible: true,
+        };
+        (start, columns)
     }
 
     fn pass(&mut self, count: u64) {
@@ -191,6 +259,7 @@ fn run(
                 columns.save(register, left.uleb() as i64 * factor);
             }
             0x06 => columns.restore(left.uleb(), &common.initial),
+            0x07 | 0x08 => columns.restore(left.uleb(), &NO_COLUMNS),
             0x0a => remembered.push(columns),
             0x0b => columns = remembered.pop().expect("a row is remembered"),
             0x0c => {
@@ -293,8 +362,8 @@ fn push_row(bytes: &mut Vec<u8>, row_type: u8, start: u64, columns: &Columns) {
     bytes.truncate(before + length);
 }
 
-/// Reads the functions of a section, and stores their rows behind those that are there.
-fn read_section(section: &[u8], address: u64, functions: &mut Vec<Function>, stored: &mut Vec<u8>) {
+/// Reads call frame information, and gives what each of its records describes.
+fn read_records(section: &[u8], address: u64, mut give: impl FnMut(&Described<'_>)) {
     let mut commons = HashMap::new();
     let mut last = None;
     let mut remembered = Vec::new();
@@ -326,60 +395,147 @@ fn read_section(section: &[u8], address: u64, functions: &mut Vec<Function>, sto
             left.pass(length);
         }
         let mut kept = common.column == 16 && !common.signal && size != 0;
+        let instructions = &section[left.place..end];
         rows.clear();
-        run(&section[left.place..end], &common, size, &mut remembered, |start, columns| {
+        run(instructions, &common, size, &mut remembered, |start, columns| {
             kept &= columns.expressible && columns.return_address_saved;
             if rows.last().is_none_or(|(_, before)| before != columns) {
                 rows.push((start, *columns));
             }
         });
         left.place = end;
-        let Some((most, _)) = rows.last().filter(|_| kept) else {
-            continue;
-        };
-        let row_type = u8::from(*most > 0xff) + u8::from(*most > 0xffff);
-        let place = stored.len();
-        for (start, columns) in &rows {
-            push_row(stored, row_type, *start, columns);
-        }
-        functions.push(Function {
+        give(&Described {
             start,
-            size: size as u32,
-            rows: rows.len() as u32,
-            place: place as u32,
-            length: (stored.len() - place) as u32,
-            row_type,
+            size,
+            kept,
+            rows: &rows,
+            common,
+            instructions,
         });
     }
 }
 
-fn write_section(at: u64, functions: &[Function], stored: &[u8]) -> Vec<u8> {
-    let rows = functions.iter().map(|function| function.rows).sum();
-    let mut bytes = Vec::with_capacity(28 + 20 * functions.len() + stored.len());
-    bytes.extend_from_slice(&[0xe2, 0xde, 2, 5, 3, 0, 0xf8, 0]);
-    for word in [
-        functions.len() as u32,
-        rows,
-        stored.len() as u32,
-        0,
-        20 * functions.len() as u32,
-    ] {
-        bytes.extend_from_slice(&word.to_le_bytes());
+impl Described<'_> {
+    /// Whether it is a plain lazy procedure linkage table.
+    fn is_plt(&self) -> bool {
+        let Common {
+            column,
+            signal,
+            code_factor,
+            initial,
+            ..
+        } = self.common;
+        let is_usual = column == 16 && !signal && code_factor == 1 && self.start % 16 == 0 && self.size > 16;
+        let is_row = initial.base == 7 && initial.expressible && initial.return_address_saved;
+        let padding = self.instructions.strip_prefix(&PLT);
+        is_usual && is_row && padding.is_some_and(|bytes| bytes.iter().all(|byte| *byte == 0))
     }
-    let mut place = 0u32;
-    for function in functions {
-        let distance = function.start.wrapping_sub(at.wrapping_add(bytes.len() as u64)) as i32;
-        bytes.extend_from_slice(&distance.to_le_bytes());
-        for word in [function.size, place, function.rows, u32::from(function.row_type)] {
+}
+
+impl Linked {
+    fn push(&mut self, start: u64, size: u64, shape: u32, rows: &[(u64, Columns)]) {
+        let most = rows.last().map_or(0, |(start, _)| *start);
+        let row_type = u8::from(most > 0xff) + u8::from(most > 0xffff);
+        let place = self.stored.len();
+        for (start, columns) in rows {
+            push_row(&mut self.stored, row_type, *start, columns);
+        }
+        self.functions.push(Function {
+            start,
+            size: size as u32,
+            rows: rows.len() as u32,
+            place: place as u32,
+            length: (self.stored.len() - place) as u32,
+            information: shape | u32::from(row_type),
+        });
+    }
+
+    /// Pushes the first entry of a procedure linkage table, and the others.
+    fn push_plt(&mut self, plt: &Described<'_>) {
+        let row = |start, cfa| {
+            let columns = Columns {
+                cfa,
+                ..plt.common.initial
+            };
+            (start, columns)
+        };
+        self.push(plt.start, 16, PLAIN, &[row(0, 16), row(6, 24)]);
+        self.push(plt.start + 16, plt.size - 16, BLOCKS, &[row(0, 8), row(11, 16)]);
+    }
+
+    /// The section's bytes.
+    fn section(&mut self, address: u64) -> Vec<u8> {
+        self.functions.sort_by_key(|function| function.start);
+        let rows = self.functions.iter().map(|function| function.rows).sum();
+        let size = 20 * self.functions.len();
+        let mut bytes = Vec::with_capacity(28 + size + self.stored.len());
+        bytes.extend_from_slice(&[0xe2, 0xde, 2, 5, 3, 0, 0xf8, 0]);
+        for word in [self.functions.len() as u32, rows, self.stored.len() as u32, 0, size as u32] {
             bytes.extend_from_slice(&word.to_le_bytes());
         }
-        place += function.length;
+        let mut place = 0u32;
+        for function in &self.functions {
+            let distance = function.start.wrapping_sub(address.wrapping_add(bytes.len() as u64)) as i32;
+            bytes.extend_from_slice(&distance.to_le_bytes());
+            for word in [function.size, place, function.rows, function.information] {
+                bytes.extend_from_slice(&word.to_le_bytes());
+            }
+            place += function.length;
+        }
+        for function in &self.functions {
+            let place = function.place as usize;
+            bytes.extend_from_slice(&self.stored[place..place + function.length as usize]);
+        }
+        bytes
     }
-    for function in functions {
-        let place = function.place as usize;
-        bytes.extend_from_slice(&stored[place..place + function.length as usize]);
+}
+
+impl Section<'_> {
+    fn read(bytes: &[u8], address: u64) -> Section<'_> {
+        let mut header = at(bytes, 8);
+        let count = header.u32() as usize;
+        header.pass(8);
+        Section {
+            bytes,
+            address,
+            count,
+            functions: 28 + header.u32() as usize,
+            rows: 28 + header.u32() as usize,
+        }
     }
-    bytes
+
+    fn start(&self, number: usize) -> u64 {
+        let place = self.functions + 20 * number;
+        let distance = at(self.bytes, place).u32() as i32;
+        self.address.wrapping_add(place as u64).wrapping_add(distance as u64)
+    }
+
+    /// The number of the function that begins at an address: often the next one.
+    fn find(&self, start: u64, next: usize) -> Option<usize> {
+        if next < self.count && self.start(next) == start {
+            return Some(next);
+        }
+        let (mut low, mut high) = (0, self.count);
+        while low < high {
+            let middle = (low + high) / 2;
+            if self.start(middle) < start {
+                low = middle + 1;
+            } else {
+                high = middle;
+            }
+        }
+        Some(low).filter(|number| *number < self.count && self.start(*number) == start)
+    }
+
+    /// Whether a function has these rows.
+    fn agrees(&self, number: usize, described: &Described<'_>) -> bool {
+        let mut entry = at(self.bytes, self.functions + 20 * number + 4);
+        let [size, place, count, information] = [entry.u32(), entry.u32(), entry.u32(), entry.u32()];
+        let mut left = at(self.bytes, self.rows + place as usize);
+        u64::from(size) == described.size
+            && count as usize == described.rows.len()
+            && described.rows.iter().all(|row| left.row(information & 0x0f) == *row)
+    }
 }
 
 /// A file that was read whole, or that is read where bytes of it are asked for.
@@ -393,7 +549,7 @@ impl Input {
         match form {
             "whole" => Input::Whole(fs::read(name).unwrap()),
             "parts" => Input::Parts(fs::File::open(name).unwrap()),
-            _ => panic!("the first word is whole or parts"),
+            _ => panic!("the second word is whole or parts"),
         }
     }
 
@@ -416,23 +572,59 @@ impl Input {
     }
 }
 
-fn main() {
-    let words: Vec<String> = env::args().collect();
-    let address = u64::from_str_radix(words[3].trim_start_matches("0x"), 16).unwrap();
-    let input = Input::open(&words[1], &words[4]);
+/// Gives what each record of a file describes.
+fn read_file(input: &Input, mut give: impl FnMut(&Described<'_>)) {
     let header = input.bytes(0, 64);
     let count = usize::from(at(&header, 60).u16());
     let headers = input.bytes(at(&header, 40).u64() as usize, 64 * count);
     let (names, _) = input.section(at(&headers, 64 * usize::from(at(&header, 62).u16())));
-    let mut functions = Vec::new();
-    let mut stored = Vec::new();
     for place in (0..count).map(|number| 64 * number) {
         let name = at(&headers, place).u32() as usize;
         if names[name..].starts_with(b".eh_frame\0") {
             let (bytes, address) = input.section(at(&headers, place));
-            read_section(&bytes, address, &mut functions, &mut stored);
+            read_records(&bytes, address, &mut give);
         }
     }
-    functions.sort_by_key(|function| function.start);
-    fs::write(&words[2], write_section(address, &functions, &stored)).unwrap();
+}
+
+fn link(input: &Input, with_plts: bool, address: u64) -> Vec<u8> {
+    let mut linked = Linked {
+        functions: Vec::new(),
+        stored: Vec::new(),
+    };
+    read_file(input, |described| {
+        if described.kept {
+            linked.push(described.start, described.size, PLAIN, described.rows);
+        } else if with_plts && described.is_plt() {
+            linked.push_plt(described);
+        }
+    });
+    linked.section(address)
+}
+
+/// Whether each function of a section has the rows that the file gives.
+fn verify(input: &Input, bytes: &[u8], address: u64) -> bool {
+    let section = Section::read(bytes, address);
+    let (mut next, mut agreeing) = (0, 0);
+    read_file(input, |described| {
+        if let Some(number) = section.find(described.start, next).filter(|_| described.kept) {
+            agreeing += usize::from(section.agrees(number, described));
+            next = number + 1;
+        }
+    });
+    agreeing == section.count
+}
+
+fn main() {
+    let words: Vec<String> = env::args().collect();
+    let [_, command, form, section, address, file] = &words[..] else {
+        panic!("the words are COMMAND FORM SECTION AT FILE");
+    };
+    let address = u64::from_str_radix(address.trim_start_matches("0x"), 16).unwrap();
+    let input = Input::open(form, file);
+    match command.as_str() {
+        "link" | "linkplt" => fs::write(section, link(&input, command == "linkplt", address)).unwrap(),
+        "verify" => process::exit(i32::from(!verify(&input, &fs::read(section).unwrap(), address))),
+        _ => panic!("the first word is link, linkplt or verify"),
+    }
 }

@@ -1,7 +1,8 @@
 """Measures the processor time of the program's commands, beside readelf, objdump, gdb and others.
 
     ./x bench             link, linkplt, merge, slim, verify, dump and lookup on the largest library for AMD64 or AArch64 on this machine,
-                          beside readelf and objdump on the same file: which is faster, and by how much
+                          beside readelf and objdump on the same file: which is faster, and by how much; and link on a copy of which no
+                          page is in memory
     ./x bench FILE        the same on another executable or shared object
     ./x bench made        generated inputs: 2^15 to 2^21 small functions, one function of 2^14 to 2^20 rows, and a look-up in 2^20 functions
                           beside bench/pass.c, a C program that reads the same file and goes over it once (if there is a cc)
@@ -12,10 +13,11 @@
     ./x bench hostile ..  deliberately slow inputs, compared with limits; `./x bench hostile --help` says more
     ./x bench --tool PROGRAM ..   with another program
 
-It needs the program and the library (`sh demo/run` builds both), binutils and, for the library, a C compiler. If there is a rustc, link is
-also measured beside bench/plain.rs, a Rust program that makes the same section and checks nothing, and that reads the whole file or only
-what it needs. Each time is the least of seven, user and system time together. The commands of one table are run in turn, seven times, a quick
-command many times in each round. The files made are in bench/out. Of these the gate runs only `hostile --small`, which is a test of limits.
+It needs the program and the library (`sh demo/run` builds both), binutils and, for the library, a C compiler. If there is a rustc, link,
+linkplt and verify are also measured beside bench/plain.rs, a Rust program that makes or compares the same section and checks no input, and
+that reads the whole file or only the parts that it needs. Each time is the least of seven, user and system time together. The commands of one
+table are run in turn, seven times, a quick command many times in each round. The files made are in bench/out. Of these the gate runs only
+`hostile --small`, which is a test of limits.
 """
 
 import filecmp
@@ -27,15 +29,16 @@ import shutil
 import subprocess
 import sys
 
-from kiblawen import common, elf, hostile, program
+from kiblawen import cold, common, elf, hostile, program
 from kiblawen.measure import Command, measure
 from kiblawen.stopping import compiled, stopped
 
 OUT = common.at_top("bench", "out")
 OUTPUT = os.path.join(OUT, "output")
 LIBRARIES = ["/usr/lib", "/usr/lib64", "/lib", "/lib64"]
-# The forms of bench/plain.rs.
-PLAIN = {"whole": "bench/plain.rs, reading the whole file", "parts": "bench/plain.rs, reading what it needs"}
+# What bench/plain.rs does, with the section that the program makes or compares; and how it reads the file.
+PLAIN = {"link": "sframe", "linkplt": "plt", "verify": "sframe"}
+FORMS = {"whole": "the whole file", "parts": "the parts"}
 READELF, OBJDUMP = "readelf --debug-dump=frames-interp", "objdump --dwarf=frames-interp"
 # The section of the program's own example, for the made core files.
 EXAMPLE = f"eh-amd64:{common.at_top('crates', 'sf_tool', 'data', 'e1')}@0x2000"
@@ -221,11 +224,89 @@ def core(tool):
     shutil.rmtree(OUT)
 
 
-def is_plain(form, at, path):
-    """Whether bench/plain.rs is built, and makes the section that link made."""
+def plain_name(command, form):
+    return f"bench/plain.rs {command}, {FORMS[form]}"
+
+
+def does_the_same(command, form, at, path):
+    """Whether bench/plain.rs makes the section that the program made; or whether it agrees with that section, and not with one that has another
+    last byte, which is of an offset in a row."""
+    section, made = out(PLAIN[command]), out("plain.sframe")
+    if command != "verify":
+        return works(out("plain"), command, form, made, at, path) and filecmp.cmp(made, section, shallow=False)
+    shutil.copyfile(section, made)
+    with open(made, "r+b") as file:
+        file.seek(-1, os.SEEK_END)
+        last = file.read()[0]
+        file.seek(-1, os.SEEK_END)
+        file.write(bytes([last ^ 1]))
+    return works(out("plain"), command, form, section, at, path) and common.status_of([out("plain"), command, form, made, at, path]) == 1
+
+
+def plain_commands(at, path):
+    """The commands of bench/plain.rs that do what those of the program do, if there is a rustc."""
     words = ["rustc", "--edition", "2021", "-O", "-C", "panic=abort", "-o", out("plain"), common.at_top("bench", "plain.rs")]
-    is_made = works(*words) and works(out("plain"), form, out("plain.sframe"), at, path)
-    return is_made and filecmp.cmp(out("plain.sframe"), out("sframe"), shallow=False)
+    if not works(*words):
+        return []
+    found = []
+    for command in PLAIN:
+        section = out(PLAIN[command] if command == "verify" else "plain.sframe")
+        for form in FORMS:
+            if does_the_same(command, form, at, path):
+                found.append(Command(plain_name(command, form), out("plain"), command, form, section, at, path))
+    return found
+
+
+def parts_of(path):
+    """How many bytes link needs of a file: its header, its section headers, their names and its call frame information."""
+    with open(path, "rb") as file:
+        found = elf.sections(file)
+        file.seek(62)
+        names = int.from_bytes(file.read(2), "little")
+    needed = sum(it.size for number, it in enumerate(found) if number == names or it.name == ".eh_frame")
+    return 64 + 64 * len(found) + needed
+
+
+def in_columns(title, cells):
+    say(f"{title:<42}" + "".join(f"{it:>14}" for it in cells))
+
+
+def beside(commands, times, path):
+    """Shows the times of link, linkplt and verify as parts of those of others, and their memory beside the bytes that they read and write."""
+    in_columns("Time, as a part of that of", PLAIN)
+    in_columns("readelf", [f"{times[f'sf_tool {it}'] / times[READELF]:.3f}" for it in PLAIN])
+    for form in FORMS:
+        plain = {it: times.get(plain_name(it, form)) for it in PLAIN}
+        in_columns(f"bench/plain.rs, {FORMS[form]}", [f"{times[f'sf_tool {it}'] / plain[it]:.2f}" if plain[it] else "-" for it in PLAIN])
+    say()
+    memory = {it.name: it.memory() for it in commands}
+    in_columns("Peak memory in MB", PLAIN)
+    in_columns("sf_tool", [memory[f"sf_tool {it}"] for it in PLAIN])
+    for form in FORMS:
+        in_columns(f"bench/plain.rs, {FORMS[form]}", [memory.get(plain_name(it, form), "-") for it in PLAIN])
+    bytes_of = {it: parts_of(path) + 4 * os.path.getsize(out(PLAIN[it])) for it in PLAIN}
+    in_columns("the parts and four times the section", [f"{bytes_of[it] / (1 << 20):.0f}" for it in PLAIN])
+
+
+def of_cold_file(path, at, tool):
+    """Measures link on a copy of a file of which no page is in memory."""
+    copy = out("copy")
+    shutil.copyfile(path, copy)
+    commands = [Command("sf_tool link", tool, "link", out(f"sframe@{at}"), f"{copy}@0x0")]
+    for form in FORMS:
+        if does_the_same("link", form, at, copy):
+            commands.append(Command(plain_name("link", form), out("plain"), "link", form, out("plain.sframe"), at, copy))
+    try:
+        times = cold.measure(commands, copy, OUTPUT)
+    except OSError as fault:
+        say(f"Not measured: link of a file of which no page is in memory ({fault})")
+        return
+    finally:
+        os.remove(copy)
+    in_columns("Without pages of the file in memory", ("processor time", "time in all"))
+    for name, seconds in times.items():
+        in_columns(name, [f"{it * 1e3:.2f} ms" for it in seconds])
+    say("(The time in all of link has the wait until the disk has stored OUT. What a disk has in a memory of its own stays there.)")
 
 
 def of_file(path, tool):
@@ -237,11 +318,14 @@ def of_file(path, tool):
     say("Processor time (the least of seven measurements; less is faster) and peak memory; on a large file this takes a minute or two")
     say()
     counts = said(tool, "link", section, source).splitlines()[-1]
+    said(tool, "linkplt", out(f"plt@{at}"), source)
     said(tool, "merge", out(f"merged@{at}"), section)
     if not filecmp.cmp(out("merged"), out("sframe"), shallow=False):
         common.fail(__name__, "a section merged for its own address is another one")
-    shown = [it.split() for it in said(tool, "dump", section).splitlines()]
-    starts, rows = [it[1] for it in shown if it[0] == "func"], int(shown[0][8])
+    Command("sf_tool dump", tool, "dump", section).run(OUTPUT)
+    # Only two lines are read: what this process takes itself hides what the commands take.
+    with open(OUTPUT, encoding="utf-8") as file:
+        rows, function = int(next(file).split()[8]), next(file, "").split()
     commands = [
         Command("sf_tool link", tool, "link", section, source),
         Command("sf_tool merge", tool, "merge", out(f"merged@{at}"), section),
@@ -249,12 +333,9 @@ def of_file(path, tool):
         Command("sf_tool slim", tool, "slim", out(f"slimmed@{at}"), section),
         Command("sf_tool verify", tool, "verify", section, source),
         Command("sf_tool dump", tool, "dump", section),
-        *(Command("sf_tool lookup, of one address", tool, "lookup", section, it) for it in starts[:1]),
+        *(Command("sf_tool lookup, of one address", tool, "lookup", section, it) for it in function[1:2]),
     ]
-    del shown
-    for form in PLAIN:
-        if is_plain(form, at, path):
-            commands.append(Command(PLAIN[form], out("plain"), form, out("plain.sframe"), at, path))
+    commands += plain_commands(at, path)
     commands += [Command(READELF, *READELF.split(), path), Command(OBJDUMP, *OBJDUMP.split(), path)]
     times = measure(commands, OUTPUT)
     link, merge, verify, dump = (times[f"sf_tool {it}"] for it in ("link", "merge", "verify", "dump"))
@@ -268,13 +349,14 @@ def of_file(path, tool):
     compare("merge", merge, READELF, readelf)
     compare("dump", dump, READELF, readelf)
     say(f"Of the time of readelf link takes {link / readelf:.3f}, merge {merge / readelf:.3f} and dump {dump / readelf:.3f}.")
-    for plain in PLAIN.values():
-        if plain in times:
-            say(f"Of the time of {plain}, which checks nothing, link takes {link / times[plain]:.2f}.")
     functions = int(counts.split()[1]) + int(counts.split()[3])
     say(f"link: {speed(link, functions, 'functions')}, {speed(link, rows, 'rows')}")
     say(f"merge: {speed(merge, functions, 'functions')}; dump: {speed(dump, functions, 'functions')}")
     say("(readelf and objdump compute and print the rows of each function; link computes them and writes a section; merge and dump read one.)")
+    say()
+    beside(commands, times, path)
+    say()
+    of_cold_file(path, at, tool)
     os.remove(OUTPUT)
 
 

@@ -12,6 +12,7 @@ It makes and compares some twenty thousand runs, as many in parallel as there ar
 """
 
 import concurrent.futures
+import itertools
 import os
 import shlex
 import subprocess
@@ -28,11 +29,22 @@ class Malformed(Exception):
     """A line that the format does not have."""
 
 
-class Zeros:
-    """The contents of a file of zeros, which are never written."""
+# Of a file that ends with zeros this much is compared.
+MOST_COMPARED = 1 << 30
 
-    def __init__(self, length):
+
+class Extended:
+    """The contents of a file: bytes, and then zeros up to a length, which are never written."""
+
+    def __init__(self, bytes, length):
+        self.bytes = bytes
         self.length = length
+
+    def is_in(self, file):
+        """Whether a file of this length begins so."""
+        pieces = iter(lambda: file.read(1 << 20), b"")
+        is_same = file.read(len(self.bytes)) == self.bytes
+        return is_same and all(piece.count(0) == len(piece) for piece in itertools.islice(pieces, MOST_COMPARED >> 20))
 
 
 class Case:
@@ -211,7 +223,7 @@ class Reader:
         self.open = table, name
 
     def opened(self):
-        if self.open is None or isinstance(self.open[0][self.open[1]], Zeros):
+        if self.open is None or isinstance(self.open[0][self.open[1]], Extended):
             raise Malformed("there are no bytes that this line can belong to")
         return self.open
 
@@ -239,14 +251,18 @@ class Reader:
             raise Malformed("nothing can be cut there")
 
     def zeros(self, length):
+        """Adds zeros up to a length."""
         table, name = self.opened()
-        table[name] = Zeros(number(length))
+        if number(length) < len(table[name]):
+            raise Malformed("there are more bytes already")
+        table[name] = Extended(table[name], number(length))
 
 
 def put(path, contents):
     os.makedirs(os.path.dirname(path), exist_ok=True)
     with open(path, "wb") as file:
-        if isinstance(contents, Zeros):
+        if isinstance(contents, Extended):
+            file.write(contents.bytes)
             file.truncate(contents.length)
         else:
             file.write(contents)
@@ -256,10 +272,9 @@ def is_as_wanted(path, wanted):
     if wanted is None or not os.path.isfile(path):
         return wanted is None and not os.path.lexists(path)
     with open(path, "rb") as file:
-        if not isinstance(wanted, Zeros):
+        if not isinstance(wanted, Extended):
             return file.read() == wanted
-        pieces = iter(lambda: file.read(1 << 20), b"")
-        return os.path.getsize(path) == wanted.length and all(piece.count(0) == len(piece) for piece in pieces)
+        return os.path.getsize(path) == wanted.length and wanted.is_in(file)
 
 
 def shown_text(text):
@@ -277,8 +292,8 @@ def shown_file(path):
 def shown_contents(contents):
     if contents is None:
         return ["    no file"]
-    if isinstance(contents, Zeros):
-        return [f"    {contents.length} zeros"]
+    if isinstance(contents, Extended):
+        return [*shown_contents(contents.bytes), f"    and zeros up to {contents.length} bytes"]
     return [f"    | {contents[at : at + 16].hex(' ')}" for at in range(0, len(contents), 16)] or ["    an empty file"]
 
 

@@ -77,7 +77,7 @@ def worked_runs():
     """The name, words and files of the first run of each case that ends with 0 or 1, with files in memory and streams as they are."""
     for path in cases.all_paths():
         for case in cases.Reader(path).cases:
-            zeros = any(isinstance(it, cases.Zeros) for it in case.files.values())
+            zeros = any(isinstance(it, cases.Extended) for it in case.files.values())
             if case.status in (0, 1) and not case.prepare and not zeros:
                 first = next(case.runs())
                 yield f"{case.place}: {first.name}", first.words, first.files

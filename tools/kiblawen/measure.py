@@ -48,11 +48,14 @@ class Command:
     def measure(self, out):
         self.least = min(self.least, sum(self.run(out) for _ in range(self.times)) / self.times)
 
-    def line(self):
+    def memory(self):
+        """Its peak memory in MB."""
         # What this process has itself counts for the command too, until the command begins: less can't be told.
         own = resource.getrusage(resource.RUSAGE_SELF).ru_maxrss
-        peak = f"{self.peak / 1024:.0f}" if self.peak > 1.1 * own else f"<{own / 1024:.0f}"
-        return f"{self.name:<42} {self.least * 1e3:10.2f} ms {peak:>6} MB"
+        return f"{self.peak / 1024:.0f}" if self.peak > 1.1 * own else f"<{own / 1024:.0f}"
+
+    def line(self):
+        return f"{self.name:<42} {self.least * 1e3:10.2f} ms {self.memory():>6} MB"
 
 
 def measure(commands, out):

@@ -41,7 +41,7 @@ ENDS = [0, 1, 0x7F, 0x80, 0xFF]
 
 def is_plain(case):
     """Whether the case can be run with changed bytes: files in memory alone, and streams as they are."""
-    return bool(case.files) and not case.prepare and not any(isinstance(it, cases.Zeros) for it in case.files.values())
+    return bool(case.files) and not case.prepare and not any(isinstance(it, cases.Extended) for it in case.files.values())
 
 
 def all_cases():

@@ -26,7 +26,7 @@ BOXES = (
     ("merging", "sf_merge sf_slim", "SFrame", 2, 310, 490),
     ("walks", "core_walk core_parts sf_c sample_walk sf_modules", "SFrame", 2, 720, 930),
     ("writing", "sf_express sf_sizes sf_write sf_functions", "SFrame", 3, 310, 490),
-    ("core files, pages", "core_notes elf_load", "ELF", 3, 510, 680),
+    ("core files, pages", "core_notes elf_load elf_mapped", "ELF", 3, 510, 680),
     ("records", "eh_pointer eh_records", "DWARF", 4, 10, 190),
     ("instructions", "cfa_insn cfa_machine signal_frames", "DWARF", 4, 210, 390),
     ("reading", "sf_decode sf_lookup", "SFrame", 4, 410, 590),
