@@ -1,9 +1,28 @@
 //! The rows of a function, in order.
 
-ghost use Rattle.std.specs.Prelude.{◌<◌, ◌+◌, ◌*◌, ◌^◌, ◌≡◌};
+ghost use Rattle.std.specs.Prelude.{◌<◌, ◌+◌, ◌*◌, ◌^◌, ◌≡◌, ◌≤◌, IsTrue, false, length};
+ghost use Rattle.sf_model.specs.RowBytes.{StandsAt};
+ghost use Rattle.sf_model.specs.Section.{AreBytes};
 
 use crate::row::{row_at, row_end};
 use sf_model::{Arch, Row};
+
+// Returns whether a run of bytes is at a place of others.
+fn stands_at(all: &[u8], place: u64, run: &[u8]) -> bool
+    ensures stands { IsTrue result → (place ≤ length all.now) × StandsAt all.now place run.now }
+    ensures bytes { AreBytes all.now }
+    ensures not { result ≡ false → place ≤ length all.now → StandsAt all.now place run.now → ⊥ }
+{
+    if place > all.len() as u64 {
+        return false;
+    }
+    let (_, rest) = all.split_at(place as usize);
+    if run.len() > rest.len() {
+        return false;
+    }
+    let (front, _) = rest.split_at(run.len());
+    front == run
+}
 
 /// An iterator over the rows of a function. It lends the section's bytes.
 #[derive(Clone, Copy)]
@@ -17,8 +36,9 @@ pub struct RowIter<'a> {
 }
 
 impl<'a> RowIter<'a> {
+    ghost use Rattle.std.specs.Prelude.{IsTrue, false};
     ghost use Rattle.sf_decode.specs.Row.{rows_in};
-    ghost use Rattle.sf_decode.specs.View.{rows_left};
+    ghost use Rattle.sf_decode.specs.View.{AreSpelled, rows_left};
 
     /// Returns the iterator over `count` rows from a place of the sub-section of rows on. `start_width`
     /// is the width of their starts. The iterator reads any bytes: what lies past their end reads as 0.
@@ -33,6 +53,18 @@ impl<'a> RowIter<'a> {
             place: u64::from(first),
             left: count,
         }
+    }
+
+    /// Returns whether `count` rows of this machine are left, whose starts have this width, and their bytes begin with
+    /// these.
+    pub fn are_spelled(&self, arch: Arch, start_width: u8, count: u32, bytes: &[u8]) -> bool
+        ensures spelled { IsTrue result → AreSpelled self.now arch start_width count bytes.now }
+        ensures not { result ≡ false → AreSpelled self.now arch start_width count bytes.now → ⊥ }
+    {
+        self.arch == arch
+            && self.start_width == start_width
+            && self.left == count
+            && stands_at(self.rows, self.place, bytes)
     }
 }
 

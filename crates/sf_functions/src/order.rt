@@ -5,6 +5,7 @@ ghost use Rattle.std.specs.List.Sorted.{IsPermutation};
 ghost use Rattle.sf_functions.specs.Order.{IsInOrder};
 
 use sf_model::{Func, Span};
+use sf_write::StoredFunction;
 use std::alloc::AllocError;
 
 /// Something that begins at an address.
@@ -24,6 +25,15 @@ impl HasStart for Func {
     #[inline(always)]
     fn start(&self) -> u64 {
         self.start
+    }
+}
+
+impl HasStart for StoredFunction {
+    ghost first_address = { λ f. f.head.start };
+
+    #[inline(always)]
+    fn start(&self) -> u64 {
+        self.head.start
     }
 }
 

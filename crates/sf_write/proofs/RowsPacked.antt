@@ -1,7 +1,6 @@
 -- Rows that are packed are read back, and one more is packed after them.
-use Rattle.std.proofs.Common.{◌≡◌, ◌+◌, ℕ, Bool, true, ◌&&◌, IsTrue, List, [], ◌∷◌, ◌++◌, length, refl, sym, ap, subst, ◌∙◌, arith, append-nil, length-append}
+use Rattle.std.proofs.Common.{◌≡◌, ◌+◌, ℕ, true, IsTrue, List, [], ◌∷◌, ◌++◌, length, refl, sym, ap, subst, ◌∙◌, arith, append-nil, length-append}
 use Rattle.std.specs.List.{flat_map, list_all}
-use Rattle.std.proofs.lemmas.List.{append_assoc}
 use Rattle.std.proofs.lemmas.List.Concat.{flat_map-cons}
 use Rattle.std.proofs.lemmas.List.Folds.{list_all-append}
 use Rattle.std.proofs.lemmas.Grind.{flat_map-append}
@@ -20,7 +19,6 @@ use Rattle.sf_write.specs.Packed.{ArePacked, HasRoom, IsPacked, unpacked}
 use Rattle.sf_write.specs.Room.{offsets_fit}
 use Rattle.sf_write.specs.Row.{narrow_row, rows_bytes, start_width}
 use Rattle.sf_write.proofs.RowsReadBack.{read_back_at}
-use Rattle.sf_write.proofs.RowsWritten.{least_is_there}
 use Rattle.sf_write.proofs.StoredFunctions.{both}
 
 -- ---- one row more

@@ -1,12 +1,14 @@
 -- The rows of a function are read back from the bytes in which they are spelled.
-use Rattle.std.proofs.Common.{◌≡◌, ◌≤◌, ◌+◌, ℕ, IsTrue, List, [], ◌∷◌, length, refl, sym, arith, append-nil}
+use Rattle.std.proofs.Common.{◌≡◌, ◌≤◌, ◌+◌, ℕ, IsTrue, List, [], ◌∷◌, ◌++◌, drop, length, refl, sym, ap, ◌∙◌, arith, append-nil}
+use Rattle.std.proofs.lemmas.List.{take-append-drop}
 use Rattle.std.specs.Prelude.{All, Ok}
 use Rattle.std.specs.List.{flat_map, list_all}
 use Rattle.sf_model.specs.declared.machine.Arch.{Arch}
 use Rattle.sf_model.specs.declared.rows.Row.{Row}
 use Rattle.sf_model.specs.Content.{content_fits}
 use Rattle.sf_model.specs.Function.{RowsRise}
-use Rattle.sf_model.specs.Section.{AnyWidth, RowsStand}
+use Rattle.sf_model.specs.RowBytes.{StandsAt}
+use Rattle.sf_model.specs.Section.{AnyWidth, AreBytes, RowsStand}
 use Rattle.sf_model.specs.Tight.{last_start}
 use Rattle.sf_model.specs.Width.{holds_unsigned}
 use Rattle.sf_model.proofs.RowsSame.{rows_same}
@@ -45,3 +47,16 @@ pub read_back : (arch : Arch) (rows : List Row) → RowsRise rows → All (λ (r
     → rows_in arch (rows_bytes rows) (start_width rows) 0 (length rows) ≡ rows
 unfolding rows_bytes
 read_back arch rows rise fits held room = read_back_at arch (start_width rows) rows (least_is_there (holds_unsigned (last_start rows))) rise fits held room
+
+-- rows that are spelled at a place of bytes are read from there
+pub read_from : (arch : Arch) (bytes : List ℕ) (width place : ℕ) (rows : List Row) → AreBytes bytes → width ≤ 2 → RowsRise rows → All (λ (row : Row). IsTrue (content_fits arch row.content)) rows
+    → IsTrue (holds_unsigned (last_start rows) width) → IsTrue (list_all offsets_fit rows) → StandsAt bytes place (flat_map (narrow_row width) rows)
+    → rows_in arch bytes width place (length rows) ≡ rows
+read_from arch bytes width place rows all valid rise fits held room stands =
+    let run : List ℕ = flat_map (narrow_row width) rows in
+    let tail : List ℕ = drop (length run) (drop place bytes) in
+    let front : drop place bytes ≡ run ++ tail = sym (take-append-drop (length run) (drop place bytes)) ∙ ap (λ (l : List ℕ). l ++ tail) stands in
+    let stand : RowsStand AnyWidth arch bytes width place (place + length run) rows = rows_stand AnyWidth (λ content. tt) arch bytes width place rows tail valid held rise fits room front in
+    let passed : rows_check arch bytes 0 width place 0 (length rows) ≡ Ok tt = rows_pass arch bytes 0 width place 0 (place + length run) rows stand rise (from_zero rows) in
+    let read = rows_stand_read arch bytes 0 width place 0 (length rows) all valid passed in
+    rows_same arch bytes width place place read.0 (place + length run) (rows_in arch bytes width place (length rows)) rows refl (rows_length arch bytes width place (length rows)) read.1 stand

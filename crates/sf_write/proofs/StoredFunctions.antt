@@ -3,24 +3,27 @@ use Rattle.std.proofs.Common.{◌≡◌, ◌≤◌, ◌+◌, ◌&&◌, ℕ, Bool
 use Rattle.std.proofs.Math.Seq.{drop-append_seam, take-length}
 use Rattle.std.proofs.lemmas.List.Elements.{All-head, All-tail}
 use Rattle.std.specs.Prelude.{All, map}
-use Rattle.std.specs.List.{list_all}
+use Rattle.std.specs.List.{flat_map, list_all}
 use Rattle.sf_model.specs.declared.machine.Arch.{Arch}
 use Rattle.sf_model.specs.declared.rows.Row.{Row}
 use Rattle.sf_model.specs.declared.function.Func.{Func}
 use Rattle.sf_model.specs.declared.function.FuncHead.{FuncHead}
-use Rattle.sf_model.specs.Function.{IsWritable}
+use Rattle.sf_model.specs.Content.{content_fits}
+use Rattle.sf_model.specs.Function.{IsWritable, RowsRise}
+use Rattle.sf_model.specs.RowBytes.{StandsAt}
 use Rattle.sf_model.specs.Tight.{last_start}
 use Rattle.sf_model.specs.Width.{holds_unsigned}
 use Rattle.sf_decode.specs.Row.{rows_in}
-use Rattle.sf_decode.specs.View.{head_of}
+use Rattle.sf_decode.specs.declared.iter.RowIter.{RowIter}
+use Rattle.sf_decode.specs.View.{AreSpelled, head_of, rows_left}
 use Rattle.sf_decode.proofs.Checked.{rows_length}
 use Rattle.sf_write.specs.declared.stored.StoredRows.{StoredRows}
 use Rattle.sf_write.specs.declared.stored.StoredFunction.{StoredFunction}
 use Rattle.sf_write.specs.Room.{offsets_fit, rows_fit}
-use Rattle.sf_write.specs.Row.{rows_bytes, rows_len, start_width}
+use Rattle.sf_write.specs.Row.{narrow_row, rows_bytes, rows_len, start_width}
 use Rattle.sf_write.specs.Stored.{IsSpelled, IsStored, function_by, range_of, stored_in}
 use Rattle.sf_write.proofs.Lengths.{length-rows}
-use Rattle.sf_write.proofs.RowsReadBack.{read_back}
+use Rattle.sf_write.proofs.RowsReadBack.{read_back, read_from}
 use Rattle.sf_write.proofs.RowsWritten.{least_is_there}
 
 -- a function with other rows
@@ -37,13 +40,15 @@ spelled_back arch func f writable room held head machine width =
     ∙ (ap (λ (w : ℕ). with_rows func (rows_in arch (rows_bytes func.rows) w 0 (length func.rows))) width
     ∙ ap (with_rows func) (read_back arch func.rows writable.rows_rise writable.contents held room)))
 
-pub is_spelled : (func : Func) (f : StoredFunction) → function_by f (rows_bytes func.rows) ≡ func → IsTrue (rows_fit func) → IsTrue (holds_unsigned (last_start func.rows) (start_width func.rows))
+pub is_spelled : (arch : Arch) (func : Func) (f : StoredFunction) → IsWritable arch func → f.arch ≡ arch → function_by f (rows_bytes func.rows) ≡ func → IsTrue (rows_fit func) → IsTrue (holds_unsigned (last_start func.rows) (start_width func.rows))
     → f.width ≡ start_width func.rows → IsSpelled f (rows_bytes func.rows)
-is_spelled func f same room held width = record {
+is_spelled arch func f writable machine same room held width = record {
   rows = ap (λ (g : Func). rows_bytes g.rows) (sym same);
   width = width ∙ ap (λ (g : Func). start_width g.rows) (sym same);
   starts_fit = subst (λ (g : Func). IsTrue (holds_unsigned (last_start g.rows) f.width)) (sym same) (subst (λ (w : ℕ). IsTrue (holds_unsigned (last_start func.rows) w)) (sym width) held);
   offsets_fit = subst (λ (g : Func). IsTrue (rows_fit g)) (sym same) room;
+  rise = subst (λ (g : Func). RowsRise g.rows) (sym same) writable.rows_rise;
+  contents_fit = subst (λ (g : Func). All (λ (row : Row). IsTrue (content_fits f.arch row.content)) g.rows) (sym same) (subst (λ (a : Arch). All (λ (row : Row). IsTrue (content_fits a row.content)) func.rows) (sym machine) writable.contents);
 }
 
 -- rows that were appended for this function
@@ -69,7 +74,7 @@ stored_new arch func old new f writable pushed same machine =
     ap (λ (l : List ℕ). take f.len (drop f.place l)) pushed.bytes
     ∙ (ap (λ (n : ℕ). take f.len (drop n (old ++ run))) pushed.place ∙ (ap (take f.len) (drop-append_seam old run) ∙ (ap (λ (n : ℕ). take n run) len ∙ take-length run))) in
     let back : function_by f run ≡ func = spelled_back arch func f writable pushed.room pushed.held head machine pushed.width in (
-      record { within = omega (pushed.end, arith); spelled = subst (IsSpelled f) (sym range) (is_spelled func f back pushed.room pushed.held pushed.width) },
+      record { within = omega (pushed.end, arith); spelled = subst (IsSpelled f) (sym range) (is_spelled arch func f writable machine back pushed.room pushed.held pushed.width) },
       ap (function_by f) range ∙ back,
     )
 
@@ -91,6 +96,19 @@ stored_says rows f h =
       narrow = omega (width, least, arith);
       held = subst (λ (w : ℕ). IsTrue (holds_unsigned (last_start (function_by f (range_of rows f)).rows) w)) width h.spelled.starts_fit;
     }
+
+-- rows that are spelled as those of the function are the same
+pub spelled_rows : (rows : StoredRows) (f : StoredFunction) (it : RowIter) → IsStored rows f → AreSpelled it f.arch f.width f.head.rows (range_of rows f) → rows_left it ≡ (stored_in rows f).rows
+unfolding stored_in function_by rows_bytes rows_fit
+spelled_rows rows f it h s =
+    let own : List Row = (function_by f (range_of rows f)).rows in
+    let width : it.start_width ≡ start_width own = s.width_is ∙ h.spelled.width in
+    let count : it.left ≡ length own = s.count_is ∙ sym (rows_length f.arch (range_of rows f) f.width 0 f.head.rows) in
+    let held : IsTrue (holds_unsigned (last_start own) (start_width own)) = subst (λ (w : ℕ). IsTrue (holds_unsigned (last_start own) w)) h.spelled.width h.spelled.starts_fit in
+    let stand : StandsAt it.rows.now it.place (flat_map (narrow_row (start_width own)) own) = subst (StandsAt it.rows.now it.place) h.spelled.rows s.stand in
+    let same = read_from f.arch it.rows.now (start_width own) it.place own s.are_bytes (least_is_there (holds_unsigned (last_start own))) h.spelled.rise h.spelled.contents_fit held h.spelled.offsets_fit stand in
+    ap (λ (a : Arch). rows_in a it.rows.now it.start_width it.place it.left) s.arch_is
+    ∙ (ap (λ (w : ℕ). rows_in f.arch it.rows.now w it.place it.left) width ∙ (ap (rows_in f.arch it.rows.now (start_width own) it.place) count ∙ same))
 
 -- the bytes of the function's range
 pub range_spelled : (rows : StoredRows) (f : StoredFunction) → IsStored rows f → range_of rows f ≡ rows_bytes (stored_in rows f).rows

@@ -1,7 +1,10 @@
 -- GNU SFrame specification, Version 2, frame row entries: functions whose rows are kept as the bytes that a section
 -- will hold, in one list of bytes for many functions. Each function has a range of the list.
-use Rattle.std.specs.Prelude.{◌≡◌, ◌+◌, ◌≤◌, ◌++◌, ℕ, Bool, IsTrue, Option, Some, None, List, [], ◌∷◌, length, take, drop, sum_by, if◌then◌else◌}
+use Rattle.std.specs.Prelude.{◌≡◌, ◌+◌, ◌≤◌, ◌++◌, ℕ, Bool, IsTrue, All, Option, Some, None, List, [], ◌∷◌, length, take, drop, sum_by, if◌then◌else◌}
 use Rattle.sf_model.specs.declared.function.Func.{Func}
+use Rattle.sf_model.specs.declared.rows.Row.{Row}
+use Rattle.sf_model.specs.Content.{content_fits}
+use Rattle.sf_model.specs.Function.{RowsRise}
 use Rattle.sf_model.specs.Width.{holds_unsigned}
 use Rattle.sf_model.specs.Tight.{last_start}
 use Rattle.sf_decode.specs.Row.{rows_in}
@@ -32,12 +35,14 @@ unfoldable pub stored_in : StoredRows → StoredFunction → Func
 stored_in rows f = function_by f (range_of rows f)
 
 -- These bytes are those of the function's rows in a section, and the width of its row starts is the one there. The
--- widths have room for all its numbers.
+-- widths have room for all its numbers. The rows rise, and the machine has their contents.
 pub record IsSpelled (f : StoredFunction) (bytes : List ℕ) : Type 0 where
   pub rows : bytes ≡ rows_bytes (function_by f bytes).rows
   pub width : f.width ≡ start_width (function_by f bytes).rows
   pub starts_fit : IsTrue (holds_unsigned (last_start (function_by f bytes).rows) f.width)
   pub offsets_fit : IsTrue (rows_fit (function_by f bytes))
+  pub rise : RowsRise (function_by f bytes).rows
+  pub contents_fit : All (λ (row : Row). IsTrue (content_fits f.arch row.content)) (function_by f bytes).rows
 
 -- the function's range lies within the bytes, and its rows are spelled there
 pub record IsStored (rows : StoredRows) (f : StoredFunction) : Type 0 where

@@ -30,8 +30,9 @@ pub struct StoredFunction {
 }
 
 impl StoredRows {
-    ghost use Rattle.std.specs.Prelude.{◌≡◌, IfOk};
+    ghost use Rattle.std.specs.Prelude.{◌≡◌, IfOk, IsTrue, false};
     ghost use Rattle.sf_model.specs.Function.{IsWritable};
+    ghost use Rattle.sf_decode.specs.View.{AreSpelled, rows_left};
     ghost use Rattle.sf_write.specs.declared.stored.StoredFunction.{StoredFunction as stored_fact};
     ghost use Rattle.sf_write.specs.Row.{rows_bytes};
     ghost use Rattle.sf_write.specs.Stored.{IsStored, range_of, stored_in};
@@ -109,7 +110,7 @@ impl StoredRows {
     {
         let head = &stored.head;
         let mut rows = Rows::new(alloc);
-        for row in RowIter::new(stored.arch, self.range(stored), stored.width, 0, head.rows) {
+        for row in self.rows(stored) {
             rows.push(row)?;
         }
         Ok(Func {
@@ -119,6 +120,30 @@ impl StoredRows {
             key: head.key,
             rows,
         })
+    }
+
+    /// Returns an iterator over the rows of a stored function, which reads them from their bytes.
+    #[tactic(auto, unfolding(crate::specs::Stored::stored_in, crate::specs::Stored::function_by))]
+    #[inline(always)]
+    pub fn rows(&self, stored: &StoredFunction) -> RowIter<'_>
+        requires { IsStored self.now stored.now }
+        ensures { rows_left result ≡ (stored_in self.now stored.now).rows }
+    {
+        let range = self.range(stored);
+        RowIter::new(stored.arch, range, stored.width, 0, stored.head.rows)
+    }
+
+    /// Returns whether rows that are read from bytes are spelled there as those of a stored function are here: as many, with
+    /// starts of the same width, by the same bytes. They are then the same rows.
+    #[tactic(auto, using(crate::proofs::StoredFunctions::spelled_rows))]
+    pub fn are_spelled(&self, stored: &StoredFunction, rows: &RowIter<'_>) -> bool
+        requires { IsStored self.now stored.now }
+        ensures spelled { IsTrue result → AreSpelled rows.now stored.now.arch stored.now.width stored.now.head.rows (range_of self.now stored.now) }
+        ensures not { result ≡ false → AreSpelled rows.now stored.now.arch stored.now.width stored.now.head.rows (range_of self.now stored.now) → ⊥ }
+        ensures same { IsTrue result → rows_left rows.now ≡ (stored_in self.now stored.now).rows }
+    {
+        let head = &stored.head;
+        rows.are_spelled(stored.arch, stored.width, head.rows, self.range(stored))
     }
 
     /// Returns the bytes of a function's rows.
