@@ -31,6 +31,10 @@ use Rattle.sf_asm.proofs.Finding.{found_alike}
 use Rattle.sf_asm.proofs.Holding.{IsWithin, gathered_apart, is_within, kept_said_by, one_holds, within}
 use Rattle.sf_asm.proofs.Members.{placed}
 
+-- the kept functions are those of another list, too
+pub with_kept : (before : Option Arch) (objects : List Object) (arch : Arch) (kept other : List Func) (omitted : List Omitted) (sources : List Function) → AreWithSources before objects arch kept omitted sources → other ≡ kept → AreWithSources before objects arch other omitted sources
+with_kept before objects arch kept other omitted sources h is = subst (λ (fs : List Func). AreWithSources before objects arch fs omitted sources) (sym is) h
+
 -- ---- what calls found
 pub found_in : {X Y : Type 0} (view : X → Y) (p : Y → Bool) (found : Option X) (x : X) (asked items : List Y) → asked ≡ items → option_map view found ≡ find p asked → found ≡ Some x → find p items ≡ Some (view x)
 found_in view p found x asked items same e is = subst (λ (ys : List _). find p ys ≡ Some (view x)) same (sym e ∙ ap (option_map view) is)

@@ -12,7 +12,9 @@ ghost use Rattle.sf_asm.specs.Described.{Describe};
 ghost use Rattle.sf_asm.specs.Functions.{Function, object_of};
 ghost use Rattle.sf_asm.specs.Said.{RowAt, SaysUpTo, form_content, said_in};
 ghost use Rattle.sf_asm.specs.Sources.{AreWithSources, source_function};
+ghost use Rattle.sf_write.specs.Stored.{IsStored, stored_in};
 
+use crate::entries::KeptFunctions;
 use crate::fault::GatherFault;
 use crate::gathering::{WithSources, gather_with_sources};
 use crate::input::Input;
@@ -23,7 +25,8 @@ use cfa_machine::Runner;
 use sf_base::NoMemory;
 use sf_express::{Piece, piece_at, pieces_of_rows};
 use sf_model::{Content, Func, Key};
-use std::alloc::Global;
+use sf_write::{StoredList, StoredRows};
+use std::alloc::{AllocError, Global};
 
 /// Returns whether a function of this start and size has an address.
 #[inline(always)]
@@ -115,12 +118,29 @@ fn gather_accepted<'a>(alloc: Global, inputs: &[Input<'a>]) -> Result<WithSource
     requires some { (0 < length inputs.now) × (length inputs.now ≤ 512) }
     requires small { All (λ input. length (object_of input).bytes < 2 ^ 32) inputs.now }
     requires accepted { CanBeGathered None (map object_of inputs.now) }
-    ensures { IfOk result (λ g. AreWithSources None (map object_of inputs.now) g.arch g.kept.items g.omitted.items g.sources.functions) }
+    ensures gathered { IfOk result (λ g. AreWithSources None (map object_of inputs.now) g.together.arch (map (stored_in g.together.rows) g.together.kept) g.together.omitted.items g.sources.functions) }
+    ensures stored { IfOk result (λ g. All (IsStored g.together.rows) g.together.kept) }
 {
     match gather_with_sources(alloc, inputs, None) {
         Ok(gathered) => Ok(gathered),
         Err(fault) => Err(only_memory(fault)),
     }
+}
+
+/// Reads the kept functions, each with a list of its rows.
+fn functions(
+    alloc: Global,
+    rows: &StoredRows,
+    kept: &KeptFunctions,
+) -> Result<Vec<Func>, AllocError>
+    requires { All (IsStored rows.now) kept.now }
+    ensures { IfOk result (λ functions. functions.items ≡ map (stored_in rows.now) kept.now) }
+{
+    let mut functions = Vec::with_capacity(alloc, kept.len())?;
+    for number in 0..kept.len() {
+        functions.push(rows.function(alloc, kept.function(number))?)?;
+    }
+    Ok(functions)
 }
 
 /// Returns the content of the row at an address, in a kept or an omitted function, with the key of that function and its
@@ -143,7 +163,8 @@ pub fn row_at(
     ensures { IfOk result (λ row. (functions : List Function) → Describe 0 (map object_of inputs.now) (Ok functions) → RowAt functions pc row) }
 {
     let gathered = gather_accepted(alloc, inputs)?;
-    if let Some(func) = kept_at(&gathered.kept, pc) {
+    let kept = functions(alloc, &gathered.together.rows, &gathered.together.kept)?;
+    if let Some(func) = kept_at(&kept, pc) {
         return kept_row(alloc, func, pc);
     }
     match omitted_at(&gathered.sources, pc) {

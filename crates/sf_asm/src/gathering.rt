@@ -20,7 +20,7 @@ use crate::read::AllFunctions;
 use crate::sources::Sources;
 use crate::spans::Overlaps;
 use sf_model::{Arch, Func, Omitted, Span};
-use sf_write::{StoredList, StoredRows};
+use sf_write::StoredRows;
 use std::alloc::{AllocError, Global};
 
 /// The functions of the inputs.
@@ -52,13 +52,9 @@ pub struct Together {
 /// The functions of all inputs together, with the omitted ones as their records describe them.
 #[derive(Drop)]
 pub struct WithSources<'a> {
-    /// The machine of all inputs.
-    pub arch: Arch,
-    /// The functions that SFrame can express, by rising start.
-    pub kept: Vec<Func>,
-    /// The functions that it can't, by start and then origin.
-    pub omitted: Vec<Omitted>,
-    /// The same as their records describe them, in the same order.
+    /// The functions of all inputs together.
+    pub together: Together,
+    /// The omitted ones as their records describe them, in the same order.
     pub sources: Sources<'a>,
 }
 
@@ -169,22 +165,6 @@ pub fn gather_together(
     Ok(kept_and_omitted(alloc, read.arch, read.entries)?)
 }
 
-/// Reads the kept functions, each with a list of its rows.
-fn functions(
-    alloc: Global,
-    rows: &StoredRows,
-    kept: &KeptFunctions,
-) -> Result<Vec<Func>, AllocError>
-    requires { All (IsStored rows.now) kept.now }
-    ensures { IfOk result (λ functions. functions.items ≡ map (stored_in rows.now) kept.now) }
-{
-    let mut functions = Vec::with_capacity(alloc, kept.len())?;
-    for number in 0..kept.len() {
-        functions.push(rows.function(alloc, kept.function(number))?)?;
-    }
-    Ok(functions)
-}
-
 /// Gathers the functions of 1 to 512 inputs as [`gather_together`] does, and lends the omitted ones as their
 /// records describe them.
 ///
@@ -200,9 +180,11 @@ pub fn gather_with_sources<'a>(
     requires small { All (λ input. length (object_of input).bytes < 2 ^ 32) inputs.now }
     // The functions are those of the inputs by rising start, one section can hold the kept ones, and the
     // sources are the omitted ones, one for each in the same order.
-    ensures gathered { IfOk result (λ g. AreWithSources before (map object_of inputs.now) g.arch g.kept.items g.omitted.items g.sources.functions) }
+    ensures gathered { IfOk result (λ g. AreWithSources before (map object_of inputs.now) g.together.arch (map (stored_in g.together.rows) g.together.kept) g.together.omitted.items g.sources.functions) }
+    // The rows of the kept functions are those of the list.
+    ensures stored { IfOk result (λ g. All (IsStored g.together.rows) g.together.kept) }
     // All items have this machine.
-    ensures machine { IfOk result (λ g. HaveMachine before (map object_of inputs.now) g.arch) }
+    ensures machine { IfOk result (λ g. HaveMachine before (map object_of inputs.now) g.together.arch) }
     // A fault is the first one.
     ensures fault { IfErr result (IsFirstGathered before (map object_of inputs.now)) }
     ensures answered { IfErr result (λ fault. IsTrue (is_gather_answered fault)) }
@@ -211,9 +193,7 @@ pub fn gather_with_sources<'a>(
     read.sources.sort()?;
     let together = kept_and_omitted(alloc, read.arch, read.entries)?;
     Ok(WithSources {
-        arch: together.arch,
-        kept: functions(alloc, &together.rows, &together.kept)?,
-        omitted: together.omitted,
+        together,
         sources: read.sources,
     })
 }

@@ -10,6 +10,7 @@ pub mod Found
 pub mod Walking
 pub mod Writable
 pub mod Sorted
+pub mod Stored
 pub mod Faults
 pub mod Worked
 pub mod SomeLinked

@@ -129,10 +129,16 @@ later_writable f content table is end key =
       shape = refl;
     }
 
+-- both, on this machine
+pub first_on : (arch : Arch) (f : Function) (content : Content) (a : Func) → is_plt f ≡ true → initial_content f ≡ Some content → f.start + f.size ≤ 2 ^ 64 → IsTrue (key_fits f.arch f.key) → f.arch ≡ arch → a ≡ first_entry f content → IsWritable arch a
+first_on arch f content a table is end key machine first =
+    subst (IsWritable arch) (sym first) (subst (λ (m : Arch). IsWritable m (first_entry f content)) machine (first_writable f content table is end key))
+
+pub later_on : (arch : Arch) (f : Function) (content : Content) (b : Func) → is_plt f ≡ true → initial_content f ≡ Some content → f.start + f.size ≤ 2 ^ 64 → IsTrue (key_fits f.arch f.key) → f.arch ≡ arch → b ≡ later_entries f content → IsWritable arch b
+later_on arch f content b table is end key machine later =
+    subst (IsWritable arch) (sym later) (subst (λ (m : Arch). IsWritable m (later_entries f content)) machine (later_writable f content table is end key))
+
 -- both, after functions that can be written
-pub pair_writable : (arch : Arch) (f : Function) (content : Content) (old : List Func) (a b : Func) → is_plt f ≡ true → initial_content f ≡ Some content → f.start + f.size ≤ 2 ^ 64 → IsTrue (key_fits f.arch f.key) → f.arch ≡ arch → All (IsWritable arch) old
-    → a ≡ first_entry f content → b ≡ later_entries f content → All (IsWritable arch) ((old ++ a ∷ []) ++ b ∷ [])
-pair_writable arch f content old a b table is end key machine each first later =
-    let one = subst (IsWritable arch) (sym first) (subst (λ (m : Arch). IsWritable m (first_entry f content)) machine (first_writable f content table is end key)) in
-    let two = subst (IsWritable arch) (sym later) (subst (λ (m : Arch). IsWritable m (later_entries f content)) machine (later_writable f content table is end key)) in
+pub pair_writable : (arch : Arch) (old : List Func) (a b : Func) → All (IsWritable arch) old → IsWritable arch a → IsWritable arch b → All (IsWritable arch) ((old ++ a ∷ []) ++ b ∷ [])
+pair_writable arch old a b each one two =
     All-append (IsWritable arch) (old ++ a ∷ []) (b ∷ []) (All-append (IsWritable arch) old (a ∷ []) each (All-from_recursion (IsWritable arch) (a ∷ []) (one, tt))) (All-from_recursion (IsWritable arch) (b ∷ []) (two, tt))

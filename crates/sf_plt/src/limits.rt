@@ -1,14 +1,12 @@
 //! The limits of functions and rows with procedure linkage tables.
 
 ghost use Rattle.std.specs.Prelude.{◌≡◌, ◌≤◌, ◌^◌};
-ghost use Rattle.sf_model.specs.Table.{row_count};
 ghost use Rattle.sf_asm.specs.Functions.{unless};
 ghost use Rattle.sf_asm.specs.Linking.{fault_of_limit};
 ghost use Rattle.sf_plt.specs.Linking.{further_fault};
 
 use sf_asm::GatherFault;
 use sf_functions::{Limit, exceeded};
-use sf_model::Func;
 
 /// The numbers of functions, of rows of those that are kept, and of procedure linkage tables.
 #[derive(Clone, Copy)]
@@ -42,16 +40,4 @@ pub fn check_tables(counts: Counts) -> Result<(), GatherFault>
         Some(limit) => Err(fault_of_limit(limit)),
         None => Ok(()),
     }
-}
-
-/// Counts the rows of the functions.
-pub fn count_rows(functions: &[Func]) -> usize
-    requires { row_count functions.now ≤ 2 ^ 24 }
-    ensures { result ≡ row_count functions.now }
-{
-    let mut rows = 0;
-    for func in functions {
-        rows += func.rows.as_slice().len();
-    }
-    rows
 }

@@ -7,13 +7,13 @@ ghost use Rattle.sf_asm.specs.Functions.{object_of};
 ghost use Rattle.sf_plt.specs.Answers.{IsFirstPltLinked, IsPltLinked, IsPltLinkedWith};
 ghost use Rattle.sf_plt.specs.Linking.{wraps_gathering};
 
-use crate::limits::{Counts, check_tables, count_rows};
+use crate::limits::{Counts, check_tables};
 use crate::sorting::sort_out;
-use sf_asm::{GatherFault, Input, LinkFault, Sources, WithSources, gather_with_sources};
+use sf_asm::{GatherFault, Input, LinkFault, Sources, Together, WithSources, gather_with_sources};
 use sf_base::NoMemory;
-use sf_functions::sort_by_start;
+use sf_functions::{count_rows, sort_by_start};
 use sf_model::{Arch, Omitted, Span};
-use sf_write::{WriteFault, write};
+use sf_write::{StoredList, WriteFault, write_stored};
 use std::alloc::Global;
 
 /// A section, and what it holds.
@@ -73,23 +73,24 @@ pub fn link_plt_with_sources<'a>(
         Ok(gathered) => gathered,
         Err(fault) => return Err(not_gathered(fault)),
     };
-    let WithSources {
+    let WithSources { together, sources } = gathered;
+    let Together {
         arch,
+        rows,
         kept,
         omitted,
-        sources,
-    } = gathered;
+    } = together;
     let count = kept.len();
     let functions = count + omitted.len();
-    let rows = count_rows(&kept);
-    let mut sorted = match sort_out(alloc, arch, kept, &omitted, &sources) {
+    let row_count = count_rows(&kept) as usize;
+    let mut sorted = match sort_out(alloc, arch, rows, kept, &omitted, &sources) {
         Ok(sorted) => sorted,
         Err(NoMemory) => return Err(LinkFault::NoMemory),
     };
     let tables = sorted.plts.len();
     let counts = Counts {
         functions,
-        rows,
+        rows: row_count,
         tables,
     };
     match check_tables(counts) {
@@ -100,7 +101,7 @@ pub fn link_plt_with_sources<'a>(
         Ok(()) => (),
         Err(_) => return Err(LinkFault::NoMemory),
     }
-    match write(alloc, arch, at, &sorted.written) {
+    match write_stored(alloc, arch, at, &sorted.rows, &sorted.written) {
         Ok(section) => Ok(PltLinkedWithSources {
             linked: PltLinked {
                 section,

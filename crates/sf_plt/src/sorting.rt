@@ -3,6 +3,7 @@
 ghost use Rattle.std.specs.Prelude.{◌≡◌, ◌++◌, ◌∷◌, [], All, Some, true, map, IfOk, OnOk};
 ghost use Rattle.std.specs.List.{filter, flat_map};
 ghost use Rattle.sf_model.specs.Function.{IsWritable};
+ghost use Rattle.sf_write.specs.Stored.{IsStored, stored_in};
 ghost use Rattle.sf_asm.specs.Entry.{omitted_of};
 ghost use Rattle.sf_asm.specs.Kept.{entry_of};
 ghost use Rattle.sf_asm.specs.Sources.{source_function};
@@ -13,16 +14,19 @@ ghost use Rattle.sf_plt.specs.Written.{plt_pair};
 
 use crate::pair::{first_entry, later_entries};
 use crate::table::table_content;
-use sf_asm::{Source, Sources};
+use sf_asm::{KeptFunctions, Source, Sources};
 use sf_base::NoMemory;
 use sf_model::{Arch, Content, Func, Omitted, Span};
+use sf_write::{StoredFunction, StoredList, StoredRows};
 use std::alloc::Global;
 
 /// Functions that are written, and omitted functions: procedure linkage tables, and the others.
 #[derive(Drop)]
 pub struct Sorted {
+    /// The rows of the functions that are written.
+    pub rows: StoredRows,
     /// The functions that are written.
-    pub written: Vec<Func>,
+    pub written: Vec<StoredFunction>,
     /// The procedure linkage tables.
     pub plts: Vec<Span>,
     /// The other omitted functions.
@@ -30,6 +34,20 @@ pub struct Sorted {
 }
 
 impl Sorted {
+    /// Adds a function that is written.
+    fn add(&mut self, arch: Arch, func: &Func) -> Result<(), NoMemory>
+        requires writable { IsWritable arch func.now }
+        requires stored { All (IsStored self.old.rows) self.old.written.items }
+        ensures stored { OnOk result (All (IsStored self.new.rows) self.new.written.items) }
+        ensures written { OnOk result (map (stored_in self.new.rows) self.new.written.items ≡ map (stored_in self.old.rows) self.old.written.items ++ func.now ∷ []) }
+        ensures plts { OnOk result (self.new.plts ≡ self.old.plts) }
+        ensures omitted { OnOk result (self.new.omitted ≡ self.old.omitted) }
+    {
+        let stored = self.rows.push(arch, func)?;
+        self.written.push(stored)?;
+        Ok(())
+    }
+
     /// Adds a procedure linkage table with this content.
     fn add_table(
         &mut self,
@@ -41,15 +59,19 @@ impl Sorted {
         requires table { is_plt (source_function source.now) ≡ true }
         requires content { initial_content (source_function source.now) ≡ Some content }
         requires machine { source.now.arch ≡ arch }
-        requires sound { All (IsWritable arch) self.old.written.items }
-        ensures written { OnOk result (self.new.written.items ≡ self.old.written.items ++ plt_pair (source_function source.now)) }
+        requires stored { All (IsStored self.old.rows) self.old.written.items }
+        requires sound { All (IsWritable arch) (map (stored_in self.old.rows) self.old.written.items) }
+        ensures stored { OnOk result (All (IsStored self.new.rows) self.new.written.items) }
+        ensures written { OnOk result (map (stored_in self.new.rows) self.new.written.items ≡ map (stored_in self.old.rows) self.old.written.items ++ plt_pair (source_function source.now)) }
         ensures plts { OnOk result (self.new.plts.items ≡ self.old.plts.items ++ plt_span (source_function source.now) ∷ []) }
         ensures omitted { OnOk result (self.new.omitted ≡ self.old.omitted) }
-        ensures sound { OnOk result (All (IsWritable arch) self.new.written.items) }
+        ensures sound { OnOk result (All (IsWritable arch) (map (stored_in self.new.rows) self.new.written.items)) }
     {
         let facts = source.facts;
-        self.written.push(first_entry(alloc, source, content)?)?;
-        self.written.push(later_entries(alloc, source, content)?)?;
+        let first = first_entry(alloc, source, content)?;
+        self.add(arch, &first)?;
+        let later = later_entries(alloc, source, content)?;
+        self.add(arch, &later)?;
         self.plts.push(Span {
             start: facts.start,
             size: facts.size,
@@ -59,26 +81,41 @@ impl Sorted {
     }
 }
 
-/// Adds two functions for each procedure linkage table among the omitted functions to those that are written. These
-/// are the sources of the omitted functions.
+/// Lists the kept functions.
+fn listed(alloc: Global, kept: KeptFunctions) -> Result<Vec<StoredFunction>, NoMemory>
+    ensures { IfOk result (λ functions. functions.items ≡ kept) }
+{
+    let mut functions = Vec::with_capacity(alloc, kept.len())?;
+    for number in 0..kept.len() {
+        functions.push(*kept.function(number))?;
+    }
+    Ok(functions)
+}
+
+/// Adds two functions for each procedure linkage table among the omitted functions to those that are kept, whose rows are
+/// these. The sources are those of the omitted functions.
 pub fn sort_out(
     alloc: Global,
     arch: Arch,
-    kept: Vec<Func>,
+    rows: StoredRows,
+    kept: KeptFunctions,
     omitted: &[Omitted],
     sources: &Sources<'_>,
 ) -> Result<Sorted, NoMemory>
     requires left { AreOmitted sources.now.functions }
     requires omitted { omitted.now ≡ omitted_of (map entry_of sources.now.functions) }
     requires machine { All (λ f. f.arch ≡ arch) sources.now.functions }
-    requires sound { All (IsWritable arch) kept.items }
-    ensures written { IfOk result (λ sorted. sorted.written.items ≡ kept.items ++ flat_map plt_pair (filter is_plt sources.now.functions)) }
+    requires stored { All (IsStored rows) kept }
+    requires sound { All (IsWritable arch) (map (stored_in rows) kept) }
+    ensures stored { IfOk result (λ sorted. All (IsStored sorted.rows) sorted.written.items) }
+    ensures written { IfOk result (λ sorted. map (stored_in sorted.rows) sorted.written.items ≡ map (stored_in rows) kept ++ flat_map plt_pair (filter is_plt sources.now.functions)) }
     ensures plts { IfOk result (λ sorted. sorted.plts.items ≡ map plt_span (filter is_plt sources.now.functions)) }
     ensures omitted { IfOk result (λ sorted. sorted.omitted.items ≡ omitted_of (map entry_of (others_in sources.now.functions))) }
-    ensures sound { IfOk result (λ sorted. All (IsWritable arch) sorted.written.items) }
+    ensures sound { IfOk result (λ sorted. All (IsWritable arch) (map (stored_in sorted.rows) sorted.written.items)) }
 {
     let mut sorted = Sorted {
-        written: kept,
+        rows,
+        written: listed(alloc, kept)?,
         plts: Vec::new(alloc),
         omitted: Vec::new(alloc),
     };

@@ -39,6 +39,11 @@ pub same_self : (a : Dwarf) → IsSame a a
 same_self a = record { arch = refl; kept = refl; omitted = refl; says = refl }
 
 -- ---- one run of addresses
+-- what says the same agrees
+pub agree_self : (said : Option Said) → Agree said said
+agree_self None = tt
+agree_self (Some said) = λ regs memory. refl
+
 -- nothing was compared yet
 pub none_yet : (section dwarf : Answers) (from : ℕ) → Compares section dwarf from from None
 none_yet section dwarf from = λ pc low high. absurd (omega (arith, low, high))

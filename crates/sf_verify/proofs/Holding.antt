@@ -7,18 +7,21 @@ use Rattle.std.proofs.lemmas.List.{get_or_default}
 use Rattle.std.proofs.lemmas.List.Elements.{All-head, All-tail}
 use Rattle.sf_model.specs.declared.content.Content.{Content}
 use Rattle.sf_model.specs.declared.function.Func.{Func}
+use Rattle.sf_model.specs.declared.function.FuncHead.{FuncHead}
 use Rattle.sf_model.specs.declared.function.Shape.{Shape}
 use Rattle.sf_model.specs.declared.function.Shape.TheVariants.{Plain}
 use Rattle.sf_model.specs.declared.machine.Arch.{Arch}
 use Rattle.sf_model.specs.declared.rows.Row.{Row}
 use Rattle.sf_model.specs.Lookup.{offset_in_block, row_at}
+use Rattle.sf_decode.specs.declared.iter.RowIter.{RowIter}
+use Rattle.sf_decode.specs.View.{head_of, rows_left}
 use Rattle.sf_express.specs.declared.pieces.Piece.{Piece}
 use Rattle.sf_express.specs.Pieces.{ArePieces, PiecesSay, said_by}
 use Rattle.sf_asm.specs.Functions.{Function}
 use Rattle.sf_verify.specs.declared.dwarf.Held.{Held}
 use Rattle.sf_asm.specs.Said.{AllFit, Answers, IfFits, form_content, said_in, with_key}
 use Rattle.sf_verify.specs.Asking.{AreHolders, IsHeld, IsKnownUpTo, IsRowed, KeptPassed, OmittedPassed}
-use Rattle.sf_verify.specs.Comparing.{func_says}
+use Rattle.sf_verify.specs.Comparing.{func_read, func_says}
 use Rattle.sf_verify.specs.Said.{by_row}
 use Rattle.sf_verify.proofs.Rows.{as_pieces, as_pieces_are, as_pieces_fit, content_of_row, pieces_as_rows}
 
@@ -86,6 +89,21 @@ kept_held arch answers kept omitted place f h holders lt is start size key piece
     let taken : IsTaken h f = record { start = start; size = size; key = key; pieces = pieces } in
     taken_held arch answers h f taken (subst (IsRowed arch) (sym is) (holders.kept_rowed place f lt))
     (λ pc from to. subst (λ (g : Func). g.start ≤ pc → pc < g.start + g.size → answers pc ≡ func_says g pc) (sym is) (holders.kept_says place f lt pc) from to)
+
+-- the function of a head and of rows that were read
+read_is : (f : Func) (head : FuncHead) (rows : RowIter) → head_of f ≡ head → rows_left rows ≡ f.rows → f ≡ func_read head rows
+read_is f head rows is same =
+    ap (λ (h : FuncHead). record { start = h.start; size = h.size; shape = h.shape; key = h.key; rows = f.rows }) is
+    ∙ ap (λ (rs : List Row). record { start = head.start; size = head.size; shape = head.shape; key = head.key; rows = rs }) (sym same)
+
+-- a kept function that was read says what is said at each of its addresses
+pub kept_alike : (arch : Arch) (answers : Answers) (kept : List Func) (omitted : List Function) (place : ℕ) (d : Func) (head : FuncHead) (rows : RowIter) → AreHolders arch answers kept omitted → place < length kept
+    → head_of (get_or kept place d) ≡ head → rows_left rows ≡ (get_or kept place d).rows → (pc : ℕ) → head.start ≤ pc → pc < head.start + head.size → answers pc ≡ func_says (func_read head rows) pc
+kept_alike arch answers kept omitted place d head rows holders lt is same pc from to =
+    let f : Func = get_or kept place d in
+    let start : f.start ≡ head.start = ap (λ (h : FuncHead). h.start) is in
+    let size : f.size ≡ head.size = ap (λ (h : FuncHead). h.size) is in
+    holders.kept_says place d lt pc (omega (arith, from, start)) (omega (arith, to, start, size)) ∙ ap (λ (g : Func). func_says g pc) (read_is f head rows is same)
 
 -- ---- an omitted function
 pub omitted_held : (arch : Arch) (answers : Answers) (kept : List Func) (omitted : List Function) (place : ℕ) (f : Function) (h : Held) → AreHolders arch answers kept omitted → place < length omitted → f ≡ get_or omitted place f → f.start + f.size ≤ 2 ^ 64

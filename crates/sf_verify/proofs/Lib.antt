@@ -1,4 +1,5 @@
 pub mod Test
+pub mod KeptAt
 pub mod Rows
 pub mod Holding
 pub mod Compared

@@ -1,5 +1,5 @@
 -- Inside the crate: the contents of call frame information, from the two lists in which the functions of the inputs are gathered.
-use Rattle.std.specs.Prelude.{◌≡◌, ◌<◌, ◌≤◌, ◌+◌, ◌-◌, ◌^◌, ℕ, Bool, true, false, List, [], ◌∷◌, length, get_or, IsTrue, Option, Some, None}
+use Rattle.std.specs.Prelude.{◌≡◌, ◌<◌, ◌≤◌, ◌+◌, ◌-◌, ◌^◌, ℕ, Bool, true, false, List, [], ◌∷◌, length, map, get_or, IsTrue, Option, Some, None}
 use Rattle.std.specs.List.{All, find}
 use Rattle.std.specs.Option.{option_and_then, option_map}
 use Rattle.sf_model.specs.declared.content.Content.{Content}
@@ -10,9 +10,11 @@ use Rattle.sf_model.specs.declared.rows.Row.{Row}
 use Rattle.sf_model.specs.Content.{content_fits}
 use Rattle.sf_model.specs.Function.{RowsRise}
 use Rattle.sf_model.specs.Lookup.{contains}
+use Rattle.sf_write.specs.Stored.{stored_in}
 use Rattle.sf_express.specs.Pieces.{ArePieces, said_by}
 use Rattle.sf_asm.specs.Faithful.{holds_address}
 use Rattle.sf_asm.specs.Functions.{Function}
+use Rattle.sf_asm.specs.declared.gathering.Together.{Together}
 use Rattle.sf_asm.specs.declared.said.Said.{Said}
 use Rattle.sf_asm.specs.Said.{AllFit, Answers, said_in, with_key}
 use Rattle.sf_verify.specs.declared.dwarf.Dwarf.{Dwarf}
@@ -30,9 +32,13 @@ by_holder pc None omitted = option_and_then (said_in pc) omitted
 unfoldable pub answers_of : (kept : List Func) → (omitted : List Function) → Answers
 answers_of kept omitted pc = by_holder pc (find (contains pc) kept) (find (holds_address pc) omitted)
 
+-- the kept functions of all inputs, with their rows
+abbrev pub kept_in : Together → List Func
+kept_in together = map (stored_in together.rows) together.kept
+
 -- the content at each address, by the lists that are held
 abbrev pub says : Dwarf → Answers
-says d = answers_of d.kept.now d.omitted.now.functions
+says d = answers_of d.kept d.omitted.now.functions
 
 -- the first row begins at 0
 abbrev pub RowsBegin : List Row → Type 0
@@ -79,22 +85,22 @@ OmittedPassed omitted next pc = (i : ℕ) (d : Function) → i < next → i < le
 
 -- the content at each address from this one on can be found
 pub record IsReady (d : Dwarf) (pc : ℕ) : Type 0 where
-  pub holders : AreHolders d.arch (says d) d.kept.now d.omitted.now.functions
+  pub holders : AreHolders d.arch (says d) d.kept d.omitted.now.functions
   pub held : IsHeld d.arch (says d) d.held
-  pub kept_passed : KeptPassed d.kept.now d.next_kept pc
+  pub kept_passed : KeptPassed d.kept d.next_kept pc
   pub omitted_passed : OmittedPassed d.omitted.now.functions d.next_omitted pc
 
 -- both have the same lists, machine and contents
 pub record IsSame (d e : Dwarf) : Type 0 where
   pub arch : e.arch ≡ d.arch
-  pub kept : e.kept.now ≡ d.kept.now
+  pub kept : e.kept ≡ d.kept
   pub omitted : e.omitted.now ≡ d.omitted.now
   pub says : says e ≡ says d
 
 -- the function that is held contains the address, or no kept function does
 abbrev pub FindsKept : Dwarf → (pc : ℕ) → Bool → Type 0
 FindsKept d pc true = (d.held.start ≤ pc) × (pc < d.held.start + d.held.size)
-FindsKept d pc false = (i : ℕ) (f : Func) → i < length d.kept.now → (get_or d.kept.now i f).start ≤ pc → pc < (get_or d.kept.now i f).start + (get_or d.kept.now i f).size → ⊥
+FindsKept d pc false = (i : ℕ) (f : Func) → i < length d.kept → (get_or d.kept i f).start ≤ pc → pc < (get_or d.kept i f).start + (get_or d.kept i f).size → ⊥
 
 -- the function that is held contains the address, or no omitted function does
 abbrev pub FindsOmitted : Dwarf → (pc : ℕ) → Bool → Type 0

@@ -9,10 +9,11 @@ ghost use Rattle.sf_merge.specs.Located.{located_functions};
 ghost use Rattle.sf_verify.specs.Agreement as spec;
 ghost use Rattle.sf_verify.specs.Counting.{KeptRise, StartBefore, StartsRise, represents_kept, is_absent};
 
+use crate::kept::Kept;
 use crate::sweep::is_plain_shape;
 use sf_decode::{View, functions_are_numbered};
 use sf_merge::SectionFunctions;
-use sf_model::{Func, FuncHead};
+use sf_model::FuncHead;
 
 /// Counts the plain functions of a section.
 pub fn count_plain(view: &View<'_>) -> u32
@@ -42,24 +43,24 @@ fn pass(functions: &SectionFunctions<'_>, passed: usize, start: u64) -> usize
 }
 
 /// Returns whether the function at a place is a plain one with the start and size of a kept one.
-fn is_there(functions: &SectionFunctions<'_>, place: usize, kept: &Func) -> bool
+fn is_there(functions: &SectionFunctions<'_>, place: usize, kept: &FuncHead) -> bool
     ensures within { IsTrue result → place < length functions.now }
-    ensures there { (d : located) → place < length functions.now → result ≡ represents_kept kept.now (get_or functions.now place d).func }
+    ensures there { (k : func) (d : located) → kept.now ≡ head_of k → place < length functions.now → result ≡ represents_kept k (get_or functions.now place d).func }
 {
     place < functions.len() && represents_kept(&functions.head(place), kept)
 }
 
 /// Returns whether a function is a plain one with the start and size of a kept one.
 #[inline(always)]
-fn represents_kept(head: &FuncHead, kept: &Func) -> bool
-    ensures { (f : func) → head.now ≡ head_of f → result ≡ represents_kept kept.now f }
+fn represents_kept(head: &FuncHead, kept: &FuncHead) -> bool
+    ensures { (k f : func) → kept.now ≡ head_of k → head.now ≡ head_of f → result ≡ represents_kept k f }
 {
     is_plain_shape(head.shape) && head.start == kept.start && head.size == kept.size
 }
 
 /// Counts the kept functions for which there is no plain function of the same start and size. Both lists
 /// are by rising start, and are scanned once.
-pub fn count_missing(kept: &[Func], functions: &SectionFunctions<'_>) -> u32
+pub fn count_missing(kept: &Kept<'_>, functions: &SectionFunctions<'_>) -> u32
     requires few { length kept.now ≤ 2 ^ 21 }
     requires kept { KeptRise kept.now }
     requires functions { StartsRise functions.now }
@@ -67,9 +68,10 @@ pub fn count_missing(kept: &[Func], functions: &SectionFunctions<'_>) -> u32
 {
     let mut missing = 0;
     let mut next = 0;
-    for func in kept {
-        next = pass(functions, next, func.start);
-        if !is_there(functions, next, func) {
+    for place in 0..kept.len() {
+        let head = kept.head(place);
+        next = pass(functions, next, head.start);
+        if !is_there(functions, next, &head) {
             missing += 1;
         }
     }

@@ -3,17 +3,21 @@
 ghost use Rattle.std.specs.Prelude.{◌≡◌, ◌≤◌, ◌<◌, ◌+◌, ◌^◌, ℕ, [], map, length, get_or, None, OnOk, IfOk, IsTrue, false};
 ghost use Rattle.sf_model.specs.declared.function.Func.{Func as function};
 ghost use Rattle.sf_model.specs.declared.machine.Arch.{Arch as machine};
+ghost use Rattle.sf_decode.specs.View.{head_of, rows_left};
 ghost use Rattle.sf_express.specs.Pieces.{ArePieces, PiecesSay, piece_of_row};
 ghost use Rattle.sf_asm.specs.Said.{AllFit, Answers, form_content};
 ghost use Rattle.sf_asm.specs.Functions.{Function as lent};
 ghost use Rattle.sf_asm.specs.Sources.{source_function};
+ghost use Rattle.sf_verify.specs.Comparing.{func_read, func_says};
 ghost use Rattle.sf_verify.specs.Asking.{AreHolders, Finds, FindsKept, FindsOmitted, IsHeld, IsReady, IsSame, KeptPassed, Knows, OmittedPassed, answers_of, says};
 
+use crate::kept::Kept;
 use cfa_machine::Runner;
 use sf_asm::{Said, Source, Sources, pieces_said};
 use sf_base::NoMemory;
+use sf_decode::RowIter;
 use sf_express::{Piece, piece_at};
-use sf_model::{Arch, Func, Key};
+use sf_model::{Arch, FuncHead, Key};
 use std::alloc::Global;
 
 /// The content at an address, and the last address up to which it stays the same.
@@ -36,7 +40,7 @@ pub struct Held {
 #[derive(Drop)]
 pub struct Dwarf<'a> {
     arch: Arch,
-    kept: &'a [Func],
+    kept: Kept<'a>,
     omitted: &'a Sources<'a>,
     // Functions before these end by the address that was asked for last.
     next_kept: usize,
@@ -47,14 +51,14 @@ pub struct Dwarf<'a> {
 }
 
 /// Returns the place of the first kept function, from a place on, that ends after an address.
-fn pass_kept(kept: &[Func], passed: usize, pc: u64) -> usize
+fn pass_kept(kept: &Kept<'_>, passed: usize, pc: u64) -> usize
     requires passed { KeptPassed kept.now passed pc }
     requires ends { (i : ℕ) (d : function) → i < length kept.now → (get_or kept.now i d).start + (get_or kept.now i d).size ≤ 2 ^ 64 }
     ensures passed { KeptPassed kept.now result pc }
     ensures after { (d : function) → result < length kept.now → pc < (get_or kept.now result d).start + (get_or kept.now result d).size }
 {
     let mut next = passed;
-    while next < kept.len() && ends_by(kept[next].start, u64::from(kept[next].size), pc) {
+    while next < kept.len() && kept_ends_by(&kept.head(next), pc) {
         next += 1;
     }
     next
@@ -69,14 +73,32 @@ fn ends_by(start: u64, size: u64, pc: u64) -> bool
     start <= pc && size <= pc - start
 }
 
+/// Returns whether a kept function ends at an address or below it.
+#[inline(always)]
+fn kept_ends_by(head: &FuncHead, pc: u64) -> bool
+    ensures by { IsTrue result → head.now.start + head.now.size ≤ pc }
+    ensures after { result ≡ false → pc < head.now.start + head.now.size }
+{
+    ends_by(head.start, u64::from(head.size), pc)
+}
+
 /// Returns whether there is a kept function at a place, and it starts at an address or below it.
 #[inline(always)]
-fn kept_starts(kept: &[Func], place: usize, pc: u64) -> bool
+fn kept_starts(kept: &Kept<'_>, place: usize, pc: u64) -> bool
     ensures within { IsTrue result → place < length kept.now }
     ensures starts { (d : function) → IsTrue result → (get_or kept.now place d).start ≤ pc }
     ensures after { (d : function) → result ≡ false → place < length kept.now → pc < (get_or kept.now place d).start }
 {
-    place < kept.len() && kept[place].start <= pc
+    place < kept.len() && kept.head(place).start <= pc
+}
+
+/// Returns whether there is a kept function at a place, and it is this one without its rows.
+#[inline(always)]
+fn has_head(kept: &Kept<'_>, place: usize, head: &FuncHead) -> bool
+    ensures within { IsTrue result → place < length kept.now }
+    ensures is { (d : function) → IsTrue result → head_of (get_or kept.now place d) ≡ head.now }
+{
+    place < kept.len() && kept.head(place) == *head
 }
 
 /// Returns whether there is an omitted function at a place, and it starts at an address or below it.
@@ -103,17 +125,17 @@ fn pass_omitted(omitted: &Sources<'_>, passed: usize, pc: u64) -> usize
 }
 
 /// Takes the rows of a kept function as pieces.
-fn hold_kept(held: &mut Held, func: &Func) -> Result<(), NoMemory>
-    ensures start { OnOk result (held.new.start ≡ func.now.start) }
-    ensures size { OnOk result (held.new.size ≡ func.now.size) }
-    ensures key { OnOk result (held.new.key ≡ func.now.key) }
-    ensures pieces { OnOk result (held.new.pieces.items ≡ map piece_of_row func.now.rows) }
+fn hold_kept(held: &mut Held, head: &FuncHead, rows: RowIter<'_>) -> Result<(), NoMemory>
+    ensures start { OnOk result (held.new.start ≡ head.now.start) }
+    ensures size { OnOk result (held.new.size ≡ head.now.size) }
+    ensures key { OnOk result (held.new.key ≡ head.now.key) }
+    ensures pieces { OnOk result (held.new.pieces.items ≡ map piece_of_row (rows_left rows.entry)) }
 {
-    held.start = func.start;
-    held.size = u64::from(func.size);
-    held.key = func.key;
+    held.start = head.start;
+    held.size = u64::from(head.size);
+    held.key = head.key;
     held.pieces.clear();
-    for row in func.rows.as_slice() {
+    for row in rows {
         held.pieces.push(Piece {
             start: u64::from(row.start),
             content: Some(row.content),
@@ -189,10 +211,10 @@ impl Held {
 
 impl<'a> Dwarf<'a> {
     /// Returns the functions of inputs, before any address is asked for.
-    pub fn new(alloc: Global, arch: Arch, kept: &'a [Func], omitted: &'a Sources<'a>) -> Dwarf<'a>
-        requires { AreHolders arch (answers_of kept.now omitted.now.functions) kept.now omitted.now.functions }
+    pub fn new(alloc: Global, arch: Arch, kept: Kept<'a>, omitted: &'a Sources<'a>) -> Dwarf<'a>
+        requires { AreHolders arch (answers_of kept omitted.now.functions) kept omitted.now.functions }
         ensures ready { IsReady result 0 }
-        ensures says { says result ≡ answers_of kept.now omitted.now.functions }
+        ensures says { says result ≡ answers_of kept.entry omitted.now.functions }
         ensures arch { result.arch ≡ arch }
     {
         Dwarf {
@@ -214,6 +236,21 @@ impl<'a> Dwarf<'a> {
         self.arch
     }
 
+    /// Returns whether a function of a section is the first kept one that ends after its start, with the same bytes of rows.
+    /// Call frame information then says what it says.
+    pub fn keeps(&mut self, head: &FuncHead, rows: &RowIter<'_>) -> bool
+        requires { IsReady self.old head.now.start }
+        ensures same { IsSame self.old self.new }
+        ensures ready { IsReady self.new head.now.start }
+        ensures kept { IsTrue result → (pc : ℕ) → head.now.start ≤ pc → pc < head.now.start + head.now.size → says self.old pc ≡ func_says (func_read head.now rows.now) pc }
+    {
+        self.next_kept = pass_kept(&self.kept, self.next_kept, head.start);
+        if !has_head(&self.kept, self.next_kept, head) {
+            return false;
+        }
+        self.kept.are_spelled(self.next_kept, rows)
+    }
+
     /// Finds the kept function that contains an address.
     fn find_kept(&mut self, pc: u64) -> Result<bool, NoMemory>
         requires { IsReady self.old pc }
@@ -221,12 +258,13 @@ impl<'a> Dwarf<'a> {
         ensures ready { OnOk result (IsReady self.new pc) }
         ensures found { IfOk result (FindsKept self.new pc) }
     {
-        self.next_kept = pass_kept(self.kept, self.next_kept, pc);
-        if !kept_starts(self.kept, self.next_kept, pc) {
+        self.next_kept = pass_kept(&self.kept, self.next_kept, pc);
+        if !kept_starts(&self.kept, self.next_kept, pc) {
             return Ok(false);
         }
-        let kept = self.kept;
-        hold_kept(&mut self.held, &kept[self.next_kept])?;
+        let head = self.kept.head(self.next_kept);
+        let rows = self.kept.rows(self.next_kept);
+        hold_kept(&mut self.held, &head, rows)?;
         Ok(true)
     }
 

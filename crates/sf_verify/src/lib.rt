@@ -11,13 +11,15 @@
 //!
 //! The functions of both sides are scanned once, by rising start, and only the offsets at which one of them can
 //! change are compared. The instructions of an omitted function are run only if the section has rows in it. The
-//! caller owes inputs of fewer than 2^32 bytes each. The lists of the functions of both sides are allocated.
+//! caller owes inputs of fewer than 2^32 bytes each. The lists of the functions of both sides are allocated. Rows are read
+//! where they are stored.
 #![tactic(auto)]
 
 mod agreement;
 mod counts;
 mod dwarf;
 mod fault;
+mod kept;
 mod laws;
 mod notice;
 mod overlap;

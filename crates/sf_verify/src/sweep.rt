@@ -75,8 +75,8 @@ fn edge(row: Option<Row>, size: u32) -> u32
     }
 }
 
-/// Compares a plain function of the section. Its rows are read once, and only the next one is kept.
-fn compare_function(
+/// Compares a plain function of the section by its rows. They are read once, and only the next one is kept.
+fn compare_rows(
     alloc: Global,
     head: &FuncHead,
     rows: RowIter<'_>,
@@ -110,6 +110,27 @@ fn compare_function(
         from = end;
     }
     Ok(None)
+}
+
+/// Compares a plain function of the section: its rows' bytes with those of the kept function, and its rows one by one only if
+/// these differ.
+fn compare_function(
+    alloc: Global,
+    head: &FuncHead,
+    rows: RowIter<'_>,
+    dwarf: &mut Dwarf<'_>,
+) -> Result<Option<Difference>, NoMemory>
+    requires ready { IsReady dwarf.old head.now.start }
+    requires plain { IsTrue (spec.is_plain_shape head.now.shape) }
+    requires comparable { IsComparable dwarf.old.arch (func_read head.now rows) }
+    ensures same { OnOk result (IsSame dwarf.old dwarf.new) }
+    ensures ready { OnOk result (IsReady dwarf.new (head.now.start + head.now.size)) }
+    ensures compared { IfOk result (Compares (func_says (func_read head.now rows.entry)) (says dwarf.old) head.now.start (head.now.start + head.now.size)) }
+{
+    if dwarf.keeps(head, &rows) {
+        return Ok(None);
+    }
+    compare_rows(alloc, head, rows, dwarf)
 }
 
 /// Returns whether rows are looked up by the offset.

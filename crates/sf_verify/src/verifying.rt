@@ -3,7 +3,8 @@
 ghost use Rattle.std.specs.Prelude.{◌≡◌, ◌≤◌, ◌<◌, ◌^◌, All, length, map, Ok, IfOk, IfErr, IsTrue};
 ghost use Rattle.sf_asm.specs.Functions.{object_of};
 ghost use Rattle.sf_decode.specs.View.{section_bytes, table_of};
-ghost use Rattle.sf_verify.specs.Asking.{AreHolders, answers_of};
+ghost use Rattle.sf_verify.specs.Asking.{AreHolders, answers_of, kept_in};
+ghost use Rattle.sf_write.specs.Stored.{IsStored};
 ghost use Rattle.sf_merge.specs.Located.{located_functions};
 ghost use Rattle.sf_verify.specs.Comparing.{AreComparable};
 ghost use Rattle.sf_verify.specs.Concluding.{IsVerdictBy};
@@ -14,6 +15,7 @@ ghost use Rattle.sf_verify.specs.Verifying.{IsFirstVerifyFault, Verifies, refuse
 use crate::counts::{count_missing, count_plain};
 use crate::dwarf::Dwarf;
 use crate::fault::VerifyFault;
+use crate::kept::Kept;
 use crate::overlap::shared_address;
 use crate::sweep::compare;
 use sf_asm::{GatherFault, Input, WithSources, gather_with_sources};
@@ -47,15 +49,17 @@ fn verdict_on(
     ordered: &SectionFunctions<'_>,
     gathered: &WithSources<'_>,
 ) -> Result<Verdict, NoMemory>
-    requires machine { gathered.now.arch ≡ (table_of view.now).arch }
-    requires comparable { AreComparable gathered.now.arch ordered.now }
+    requires machine { gathered.now.together.arch ≡ (table_of view.now).arch }
+    requires comparable { AreComparable gathered.now.together.arch ordered.now }
     requires rise { StartsRise ordered.now }
-    requires holders { AreHolders gathered.now.arch (answers_of gathered.now.kept.items gathered.now.sources.functions) gathered.now.kept.items gathered.now.sources.functions }
-    requires few { length gathered.now.kept.items ≤ 2 ^ 21 }
-    requires kept { KeptRise gathered.now.kept.items }
-    ensures { IfOk result (IsVerdictBy (table_of view.now).functions (located_functions ordered.now) gathered.now.kept.items (answers_of gathered.now.kept.items gathered.now.sources.functions)) }
+    requires holders { AreHolders gathered.now.together.arch (answers_of (kept_in gathered.now.together) gathered.now.sources.functions) (kept_in gathered.now.together) gathered.now.sources.functions }
+    requires stored { All (IsStored gathered.now.together.rows) gathered.now.together.kept }
+    requires few { length (kept_in gathered.now.together) ≤ 2 ^ 21 }
+    requires kept { KeptRise (kept_in gathered.now.together) }
+    ensures { IfOk result (IsVerdictBy (table_of view.now).functions (located_functions ordered.now) (kept_in gathered.now.together) (answers_of (kept_in gathered.now.together) gathered.now.sources.functions)) }
 {
-    let mut dwarf = Dwarf::new(alloc, gathered.arch, &gathered.kept, &gathered.sources);
+    let WithSources { together, sources } = gathered;
+    let mut dwarf = Dwarf::new(alloc, together.arch, Kept::new(together), sources);
     if let Some(difference) = compare(alloc, ordered, &mut dwarf)? {
         return Ok(Verdict::Differs {
             pc: difference.pc,
@@ -66,7 +70,7 @@ fn verdict_on(
     let checked = count_plain(view);
     Ok(Verdict::Agrees {
         checked,
-        missing: count_missing(&gathered.kept, ordered),
+        missing: count_missing(&Kept::new(together), ordered),
         repeats: view.len() - checked,
     })
 }

@@ -20,7 +20,7 @@ returns-clause-gathered c =
     let entries = c.in_ok-read.read.entries in
     let read = are_read c.args.before objects entries c.in_ok-read.ensures.gathered in
     let is = ordered_are read.functions entries read.in_order in
-    let kept = c.in_ok-functions.ensures ∙ c.in_ok-together.ensures.kept in
+    let kept = c.in_ok-together.ensures.kept in
     record {
       functions = read.functions;
       are = describe (first_item c.args.before) objects (Ok read.functions) read.are;

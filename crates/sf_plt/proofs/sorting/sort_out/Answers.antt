@@ -1,6 +1,8 @@
 use Rattle.std.proofs.Common.{◌+◌, ◌++◌, All, List, length, map, take, ap, subst, sym, ◌∙◌, arith}
 use Rattle.std.specs.List.{filter, flat_map}
+use Rattle.sf_model.specs.declared.function.Func.{Func}
 use Rattle.sf_model.specs.Function.{IsWritable}
+use Rattle.sf_write.specs.Stored.{IsStored, stored_in}
 use Rattle.sf_asm.specs.Entry.{omitted_of}
 use Rattle.sf_asm.specs.Functions.{Function}
 use Rattle.sf_asm.specs.Kept.{entry_of}
@@ -12,6 +14,10 @@ use Rattle.sf_plt.specs.Written.{plt_pair}
 use Rattle.sf_plt.proofs.Sorted.{lent_arch, lent_omitted, lent_step, none_chosen, omitted_count, omitted_on, omitted_stay, past, plts_on, plts_stay, table_chosen, within, written_on, written_stays}
 use Rattle.sf_plt.proofs.sorting.sort_out.Goals as goal
 use Rattle.sf_plt.proofs.sorting.sort_out.Goals.{in-Some+in_ok-add_table-in-Some, in-None+in_ok-push-in-None}
+
+-- the functions that are written
+abbrev written_in : Sorted → List Func
+written_in sorted = map (stored_in sorted.rows) sorted.written.items
 
 -- a function for each line
 pub get-source-requires : goal.get-source-requires
@@ -30,6 +36,7 @@ add_table-requires-clause-machine c =
 
 pub loop-number-preserved : goal.loop-number-preserved
 loop-number-preserved c =
+    let kept = map (stored_in c.args.rows) c.args.kept in
     let f = source_function c.get-source.result in
     let k = c.loop-number.number in
     let lt = within c.args.sources.now.functions c.args.omitted.now k c.requires.left c.requires.omitted c.loop-number-test.true in
@@ -42,19 +49,21 @@ loop-number-preserved c =
           let t = table_chosen f w.in-Some.content c.table_content.result w.in-Some.is c.table_content.ensures in
           let done = w.in_ok-add_table-in-Some.ensures in
           record {
-            written = ap (λ (x : Sorted). x.written.items) w.sorted-is ∙ written_on c.args.kept.items c.loop-number.sorted.written.items w.add_table.new.self.written.items fs gs f on t done.written inv.written;
+            stored = subst (λ (x : Sorted). All (IsStored x.rows) x.written.items) (sym w.sorted-is) done.stored;
+            written = ap written_in w.sorted-is ∙ written_on kept (written_in c.loop-number.sorted) (written_in w.add_table.new.self) fs gs f on t done.written inv.written;
             plts = ap (λ (x : Sorted). x.plts.items) w.sorted-is ∙ plts_on c.loop-number.sorted.plts.items w.add_table.new.self.plts.items fs gs f on t done.plts inv.plts;
             omitted = ap (λ (x : Sorted). x.omitted.items) w.sorted-is ∙ ap (λ x. x.items) done.omitted ∙ omitted_stay c.loop-number.sorted.omitted.items fs gs f on t inv.omitted;
-            sound = subst (λ (x : Sorted). All (IsWritable c.args.arch) x.written.items) (sym w.sorted-is) done.sound;
+            sound = subst (λ (x : Sorted). All (IsWritable c.args.arch) (written_in x)) (sym w.sorted-is) done.sound;
           }
       | in-None+in_ok-push-in-None w ↦
           let t = none_chosen f c.table_content.result w.in-None.is c.table_content.ensures in
           record {
-            written = ap (λ (x : Sorted). x.written.items) w.sorted-is ∙ written_stays c.args.kept.items c.loop-number.sorted.written.items fs gs f on t inv.written;
+            stored = subst (λ (x : Sorted). All (IsStored x.rows) x.written.items) (sym w.sorted-is) inv.stored;
+            written = ap written_in w.sorted-is ∙ written_stays kept (written_in c.loop-number.sorted) fs gs f on t inv.written;
             plts = ap (λ (x : Sorted). x.plts.items) w.sorted-is ∙ plts_stay c.loop-number.sorted.plts.items fs gs f on t inv.plts;
             omitted = ap (λ (x : Sorted). x.omitted.items) w.sorted-is ∙ omitted_on c.loop-number.sorted.omitted.items w.push.new.self.items _ fs gs f on t w.in_ok-push-in-None.ensures.items
                 (lent_omitted c.args.sources.now.functions c.args.omitted.now k f _ lt (c.get-source.ensures f) c.requires.left c.requires.omitted) inv.omitted;
-            sound = subst (λ (x : Sorted). All (IsWritable c.args.arch) x.written.items) (sym w.sorted-is) inv.sound;
+            sound = subst (λ (x : Sorted). All (IsWritable c.args.arch) (written_in x)) (sym w.sorted-is) inv.sound;
           }
     ]
 
@@ -62,7 +71,7 @@ loop-number-preserved c =
 pub returns-clause-written : goal.returns-clause-written
 returns-clause-written c =
     let all = past c.args.sources.now.functions c.args.omitted.now c.loop-number.number c.requires.left c.requires.omitted c.loop-number-test.false in
-    c.loop-number.invariant.written ∙ ap (λ (fs : List Function). c.args.kept.items ++ flat_map plt_pair (filter is_plt fs)) all
+    c.loop-number.invariant.written ∙ ap (λ (fs : List Function). map (stored_in c.args.rows) c.args.kept ++ flat_map plt_pair (filter is_plt fs)) all
 
 pub returns-clause-plts : goal.returns-clause-plts
 returns-clause-plts c =

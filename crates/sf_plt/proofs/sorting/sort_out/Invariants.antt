@@ -1,6 +1,7 @@
 use Rattle.std.proofs.Common.{◌≡◌, ◌++◌, All, map, take}
 use Rattle.std.specs.List.{filter, flat_map}
 use Rattle.sf_model.specs.Function.{IsWritable}
+use Rattle.sf_write.specs.Stored.{IsStored, stored_in}
 use Rattle.sf_asm.specs.Entry.{omitted_of}
 use Rattle.sf_asm.specs.Kept.{entry_of}
 use Rattle.sf_plt.specs.Answers.{others_in, plt_span}
@@ -10,8 +11,9 @@ use Rattle.sf_plt.proofs.sorting.sort_out.Given as goal
 
 abbrev pub invariant-loop-number : goal.invariant-loop-number
 invariant-loop-number l = record {
-  written : l.sorted.written.items ≡ l.fn.kept.items ++ flat_map plt_pair (filter is_plt (take l.number l.sources.functions));
+  stored : All (IsStored l.sorted.rows) l.sorted.written.items;
+  written : map (stored_in l.sorted.rows) l.sorted.written.items ≡ map (stored_in l.fn.rows) l.fn.kept ++ flat_map plt_pair (filter is_plt (take l.number l.sources.functions));
   plts : l.sorted.plts.items ≡ map plt_span (filter is_plt (take l.number l.sources.functions));
   omitted : l.sorted.omitted.items ≡ omitted_of (map entry_of (others_in (take l.number l.sources.functions)));
-  sound : All (IsWritable l.arch) l.sorted.written.items;
+  sound : All (IsWritable l.arch) (map (stored_in l.sorted.rows) l.sorted.written.items);
 }

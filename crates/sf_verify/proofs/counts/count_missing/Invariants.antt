@@ -5,8 +5,8 @@ use Rattle.sf_merge.specs.Located.{located_functions}
 use Rattle.sf_verify.specs.Counting.{StartBefore, is_absent}
 use Rattle.sf_verify.proofs.counts.count_missing.Given as goal
 
-abbrev pub invariant-loop-func : goal.invariant-loop-func
-invariant-loop-func l = record {
-  before : (d : Func) → l.func-index < length l.kept → StartBefore l.functions l.next (get_or l.kept l.func-index d).start;
-  count : l.missing ≡ length (filter (is_absent (located_functions l.functions)) (take l.func-index l.kept));
+abbrev pub invariant-loop-place : goal.invariant-loop-place
+invariant-loop-place l = record {
+  before : (d : Func) → l.place < length l.kept → StartBefore l.functions l.next (get_or l.kept l.place d).start;
+  count : l.missing ≡ length (filter (is_absent (located_functions l.functions)) (take l.place l.kept));
 }

@@ -4,7 +4,7 @@ use Rattle.sf_model.specs.declared.function.Func.{Func}
 use Rattle.sf_decode.specs.View.{table_of}
 use Rattle.sf_verify.specs.declared.sweep.Difference.{Difference}
 use Rattle.sf_verify.specs.Agreement.{is_plain}
-use Rattle.sf_verify.specs.Asking.{answers_of, says}
+use Rattle.sf_verify.specs.Asking.{answers_of, kept_in, says}
 use Rattle.sf_verify.specs.Counting.{is_absent}
 use Rattle.sf_merge.specs.Located.{located_functions}
 use Rattle.sf_verify.specs.Comparing.{ComparesAll}
@@ -22,13 +22,11 @@ pub returns : goal.returns
 returns c =
     let section = section_at (located_functions c.args.ordered.now) in
     let functions = (table_of c.args.view.now).functions in
-    let kept_is : c.deref.result.now ≡ c.args.gathered.now.kept.items = c.deref.ensures.value in
-    let answers : says c.new-dwarf.result ≡ answers_of c.args.gathered.now.kept.items c.args.gathered.now.sources.functions =
-    c.new-dwarf.ensures.says ∙ ap (λ (ks : List Func). answers_of ks c.args.gathered.now.sources.functions) kept_is in
+    let answers : says c.new-dwarf.result ≡ answers_of (kept_in c.args.gathered.now.together) c.args.gathered.now.sources.functions = c.new-dwarf.ensures.says ∙ ap (λ (ks : List Func). answers_of ks c.args.gathered.now.sources.functions) c.new.ensures in
     let none = subst (λ (d : Option Difference). ComparesAll section (says c.new-dwarf.result) d) c.in_default.is c.in_ok-difference.ensures in
     record {
       agree = subst (λ (q : Answers). ComparesAll section q None) answers none;
       checked_are = c.count_plain-checked.ensures;
-      missing_are = c.count_missing.ensures ∙ ap (λ (ks : List Func). length (filter (is_absent (located_functions c.args.ordered.now)) ks)) c.deref-2.ensures.value;
+      missing_are = c.count_missing.ensures ∙ ap (λ (ks : List Func). length (filter (is_absent (located_functions c.args.ordered.now)) ks)) c.new-2.ensures;
       repeats_are = rest_are is_plain functions c.count_plain-checked.result c.len.result c.count_plain-checked.ensures c.len.ensures.value;
     }

@@ -4,8 +4,12 @@ use Rattle.sf_model.specs.Function.{IsWritable}
 use Rattle.sf_asm.specs.Kept.{facts_of}
 use Rattle.sf_asm.specs.Sources.{source_function}
 use Rattle.sf_plt.proofs.Form.{plt_form, size_small}
-use Rattle.sf_plt.proofs.Writable.{pair_writable}
+use Rattle.sf_plt.proofs.Writable.{first_on, later_on, pair_writable}
 use Rattle.sf_plt.proofs.sorting.Sorted.add_table.Goals as goal
+
+pub add-requires-clause-writable : goal.add-requires-clause-writable
+add-requires-clause-writable c =
+    first_on c.args.arch (source_function c.args.source.now) c.args.content c.in_ok-first.first c.requires.table c.requires.content c.args.source.now.ends c.args.source.now.has_key c.requires.machine c.in_ok-first.ensures
 
 pub later_entries-requires : goal.later_entries-requires
 later_entries-requires c =
@@ -13,9 +17,13 @@ later_entries-requires c =
     let form = plt_form f c.requires.table in
     (form.above, size_small f.arch (facts_of f) form.whole)
 
+pub add-requires-2-clause-writable : goal.add-requires-2-clause-writable
+add-requires-2-clause-writable c =
+    later_on c.args.arch (source_function c.args.source.now) c.args.content c.in_ok-later.later c.requires.table c.requires.content c.args.source.now.ends c.args.source.now.has_key c.requires.machine c.in_ok-later.ensures
+
 pub returns-clause-sound : goal.returns-clause-sound
 returns-clause-sound c =
-    let f = source_function c.args.source.now in
-    subst (All (IsWritable c.args.arch)) (sym (c.in_ok-push-2.ensures.items ∙ ap (λ (l : List Func). l ++ c.in_ok-later_entries.field-0 ∷ []) c.in_ok-push.ensures.items))
-    (pair_writable c.args.arch f c.args.content c.args.self.now.written.items c.in_ok-first_entry.field-0 c.in_ok-later_entries.field-0 c.requires.table c.requires.content c.args.source.now.ends c.args.source.now.has_key c.requires.machine c.requires.sound
-    c.in_ok-first_entry.ensures c.in_ok-later_entries.ensures)
+    subst (All (IsWritable c.args.arch)) (sym (c.in_ok-add-2.ensures.written ∙ ap (λ (l : List Func). l ++ c.in_ok-later.later ∷ []) c.in_ok-add.ensures.written))
+    (pair_writable c.args.arch _ c.in_ok-first.first c.in_ok-later.later c.requires.sound
+    (first_on c.args.arch (source_function c.args.source.now) c.args.content c.in_ok-first.first c.requires.table c.requires.content c.args.source.now.ends c.args.source.now.has_key c.requires.machine c.in_ok-first.ensures)
+    (later_on c.args.arch (source_function c.args.source.now) c.args.content c.in_ok-later.later c.requires.table c.requires.content c.args.source.now.ends c.args.source.now.has_key c.requires.machine c.in_ok-later.ensures))

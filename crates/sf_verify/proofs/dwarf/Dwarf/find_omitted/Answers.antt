@@ -17,7 +17,7 @@ returns-clause-ready c =
     let f = source_function c.get-source.result in
     record {
       holders = c.requires.holders;
-      held = omitted_held c.args.self.now.arch (says c.args.self.now) c.args.self.now.kept.now c.args.self.now.omitted.now.functions c.pass_omitted-self.result f c.in_ok-self.field-0
+      held = omitted_held c.args.self.now.arch (says c.args.self.now) c.args.self.now.kept c.args.self.now.omitted.now.functions c.pass_omitted-self.result f c.in_ok-self.field-0
           c.requires.holders (c.if-not-omitted_starts.ensures.within refl) (c.get-source.ensures f) c.get-source.result.ends
           c.in_ok-self.ensures.start c.in_ok-self.ensures.size c.in_ok-self.ensures.key c.in_ok-self.ensures.pieces c.in_ok-self.ensures.says c.in_ok-self.ensures.fits;
       kept_passed = c.requires.kept_passed;

@@ -3,7 +3,7 @@ use Rattle.sf_decode.specs.View.{rows_left}
 use Rattle.sf_verify.specs.Asking.{IsReady, IsSame, says}
 use Rattle.sf_verify.specs.Comparing.{Compares, edge_of, func_read, func_says}
 use Rattle.sf_verify.proofs.Rowwise.{lead}
-use Rattle.sf_verify.proofs.sweep.compare_function.Given as goal
+use Rattle.sf_verify.proofs.sweep.compare_rows.Given as goal
 
 -- the rows before the place were compared
 abbrev pub invariant-loop-next : goal.invariant-loop-next

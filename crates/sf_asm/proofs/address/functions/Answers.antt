@@ -3,7 +3,7 @@ use Rattle.std.proofs.lemmas.List.{map-append, take_all, take_more}
 use Rattle.sf_model.specs.declared.function.Func.{Func}
 use Rattle.sf_write.specs.declared.stored.StoredFunction.{StoredFunction}
 use Rattle.sf_write.specs.Stored.{IsStored, stored_in}
-use Rattle.sf_asm.proofs.gathering.functions.Goals as goal
+use Rattle.sf_asm.proofs.address.functions.Goals as goal
 
 pub function-requires-in-loop-number : goal.function-requires-in-loop-number
 function-requires-in-loop-number c =
