@@ -17,7 +17,7 @@ use Rattle.core_notes.specs.Checks.{Check, core_check, core_part, thread_count_c
 use Rattle.core_notes.specs.Core.{IsCore, after_first_status, mask_fits, status_fits}
 use Rattle.core_notes.specs.Listing.{NoteItem, notes_in, whole_notes}
 use Rattle.core_notes.specs.Note.{NoteView}
-use Rattle.core_notes.specs.Room.{note_room_check}
+use Rattle.core_notes.specs.TotalSize.{note_room_check}
 use Rattle.core_notes.specs.Segment.{segments}
 use Rattle.core_notes.specs.Thread.{is_mask_note, is_status, status_size, threads_in}
 use Rattle.core_notes.proofs.Checked.{all_through}

@@ -15,7 +15,7 @@ use Rattle.elf_read.specs.Sections.{segment_count, segment_total}
 use Rattle.elf_read.specs.Views.{file}
 use Rattle.elf_read.proofs.Each.{both_fine, each_below-at}
 use Rattle.elf_read.proofs.Rules.{file_check_is}
-use Rattle.core_notes.specs.Room.{HasNoteRoom, note_size, note_size_below, note_room_check}
+use Rattle.core_notes.specs.TotalSize.{HasNoteRoom, note_size, note_size_below, note_room_check}
 use Rattle.core_notes.specs.Segment.{segment_of}
 
 -- ---- one segment after the other

@@ -13,7 +13,7 @@ use Rattle.core_notes.specs.declared.fault.CoreFault.TheVariants.{Elf, NotCore, 
 use Rattle.core_notes.specs.declared.status.Thread.{Thread}
 use Rattle.core_notes.specs.Note.{NoteView}
 use Rattle.core_notes.specs.Listing.{NoteItem, notes_in, whole_notes}
-use Rattle.core_notes.specs.Room.{note_room_check}
+use Rattle.core_notes.specs.TotalSize.{note_room_check}
 use Rattle.core_notes.specs.Thread.{is_mask_note, is_status, status_size, threads_in}
 
 -- what a check of a core file comes to: it passes, or has a fault

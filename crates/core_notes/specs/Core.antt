@@ -8,7 +8,7 @@ use Rattle.elf_read.specs.Header.{arch_of, kind_of}
 use Rattle.elf_read.specs.Parsing.{file_check}
 use Rattle.core_notes.specs.Note.{NoteView}
 use Rattle.core_notes.specs.Listing.{AreNotes}
-use Rattle.core_notes.specs.Room.{HasNoteRoom}
+use Rattle.core_notes.specs.TotalSize.{HasNoteRoom}
 use Rattle.core_notes.specs.Segment.{segments}
 use Rattle.core_notes.specs.Thread.{is_mask_note, is_status, status_size, threads_in}
 

@@ -3,7 +3,7 @@ pub mod Note
 pub mod Listing
 pub mod Thread
 pub mod Threads
-pub mod Room
+pub mod TotalSize
 pub mod Checks
 pub mod Memory
 pub mod Order

@@ -6,7 +6,7 @@ use Rattle.std.proofs.lemmas.List.{length-drop, length-take, append-nil}
 use Rattle.elf_read.specs.Number.{window}
 use Rattle.elf_read.specs.Sections.{segment_count}
 use Rattle.core_notes.specs.Listing.{NoteItem, notes_from, segment_cursor, segment_items}
-use Rattle.core_notes.specs.Room.{HasNoteRoom, note_size, note_size_below}
+use Rattle.core_notes.specs.TotalSize.{HasNoteRoom, note_size, note_size_below}
 use Rattle.core_notes.specs.Segment.{SegmentView, segment_of, segments}
 use Rattle.core_notes.proofs.Rooms.{note_size_below-none, note_size_below-more}
 use Rattle.core_notes.proofs.Segments.{next_segment}

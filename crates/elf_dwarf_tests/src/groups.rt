@@ -2,7 +2,7 @@
 
 use crate::same::same;
 use crate::samples::{GROUPED, file_of};
-use elf_groups::Seen;
+use elf_groups::SeenSignatures;
 use elf_read::{Elf, ElfInput};
 use std::test::*;
 
@@ -10,7 +10,7 @@ use std::test::*;
 fn a_group_that_an_earlier_file_has(rt: HostRuntime) -> Result<(), Fail> {
     let bytes = file_of(rt.alloc(), GROUPED, "")?;
     let elf = Elf::parse(&bytes).ok().ok_or("the object is sound")?;
-    let mut seen = Seen::new(rt.alloc());
+    let mut seen = SeenSignatures::new(rt.alloc());
     let first = seen.dropped_groups(rt.alloc(), &ElfInput::Whole(elf))?;
     same(&rt, &first.len(), &0);
     let second = seen.dropped_groups(rt.alloc(), &ElfInput::Whole(elf))?;

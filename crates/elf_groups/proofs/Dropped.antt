@@ -1,4 +1,4 @@
--- The groups that are gone, file by file, are those that the definition drops.
+-- The groups that are listed, file by file, are those that the definition drops.
 use Rattle.std.specs.Prelude.{Contains, bytes_eq}
 use Rattle.std.specs.List.Sorted.{IsStrictlyIncreasing}
 use Rattle.std.proofs.Common.{◌≡◌, ◌⊎◌, ◌<◌, ◌≤◌, ◌+◌, ℕ, zero, suc, Bool, true, false, ◌%◌, ◌==◌, ◌&&◌, cond, if◌then◌else◌, List, [], ◌∷◌, ◌++◌, length, get_or, Option, Some, None, refl, sym, ap, subst, ◌∙◌, inl, inr, arith}
@@ -16,7 +16,7 @@ use Rattle.elf_read.specs.Sections.{section_bytes, section_fields, member_count}
 use Rattle.elf_read.specs.Used.{is_group}
 use Rattle.elf_read.specs.Views.{group_of, symbol_text}
 use Rattle.std.specs.Option.{option_and_then}
-use Rattle.elf_groups.proofs.Gone.{none_seen, none_gone, seen_suc, gone_suc}
+use Rattle.elf_groups.proofs.Listed.{none_seen, none_listed, seen_suc, listed_suc}
 use Rattle.elf_groups.proofs.Rising.{same_members}
 use Rattle.elf_groups.specs.Groups.{dropped_below, dropped_groups, group_signature, if_comdat, was_seen, seen_after, seen_below, seen_in, with_signature}
 
@@ -113,34 +113,34 @@ is_among : (seen : List (List ℕ)) (o : Option (List ℕ)) (s : List ℕ) → o
 is_among seen o s e h = ap (was_seen seen) e ∙ list_any-from_Any (bytes_eq s) seen (h.0, s, h.1, h.2, (bytes_eq-Decides s s).1 refl)
 
 -- ---- the numbers below n
-gone_cases : (b : Bool) (n : ℕ) (gone : List ℕ) (k : ℕ) → Contains (cond b (gone ++ n ∷ []) gone) k → Contains gone k ⊎ ((n ≡ k) × (b ≡ true))
-gone_cases false n gone k h = inl h
-gone_cases true n gone k h = elim (Contains-push_cases gone n k h) [
+listed_cases : (b : Bool) (n : ℕ) (listed : List ℕ) (k : ℕ) → Contains (cond b (listed ++ n ∷ []) listed) k → Contains listed k ⊎ ((n ≡ k) × (b ≡ true))
+listed_cases false n listed k h = inl h
+listed_cases true n listed k h = elim (Contains-push_cases listed n k h) [
   | inl there ↦ inl there
   | inr same ↦ inr (same, refl)
 ]
 
-still_gone : (b : Bool) (n : ℕ) (gone : List ℕ) (k : ℕ) → Contains gone k → Contains (cond b (gone ++ n ∷ []) gone) k
-still_gone false n gone k h = h
-still_gone true n gone k h = Contains-append_left gone (n ∷ []) k h
+still_listed : (b : Bool) (n : ℕ) (listed : List ℕ) (k : ℕ) → Contains listed k → Contains (cond b (listed ++ n ∷ []) listed) k
+still_listed false n listed k h = h
+still_listed true n listed k h = Contains-append_left listed (n ∷ []) k h
 
 abbrev Repeats : (seen : List (List ℕ)) → (file : List ℕ) → ℕ → Type 0
 Repeats seen file k = was_seen (seen_below seen file k) (group_signature file k) ≡ true
 
-gone_is : (seen : List (List ℕ)) (file : List ℕ) (n k : ℕ) → Contains (dropped_below seen file n) k → (k < n) × Repeats seen file k
-gone_is seen file zero k h = let none = subst (λ (xs : List ℕ). Contains xs k) (none_gone seen file) h in absurd (omega (arith, none.1))
-gone_is seen file (suc n) k h = elim (gone_cases (was_seen (seen_below seen file n) (group_signature file n)) n (dropped_below seen file n) k (subst (λ (xs : List ℕ). Contains xs k) (gone_suc seen file n) h)) [
-  | inl there ↦ let rest = gone_is seen file n k there in (omega (arith, rest.0), rest.1)
+listed_is : (seen : List (List ℕ)) (file : List ℕ) (n k : ℕ) → Contains (dropped_below seen file n) k → (k < n) × Repeats seen file k
+listed_is seen file zero k h = let none = subst (λ (xs : List ℕ). Contains xs k) (none_listed seen file) h in absurd (omega (arith, none.1))
+listed_is seen file (suc n) k h = elim (listed_cases (was_seen (seen_below seen file n) (group_signature file n)) n (dropped_below seen file n) k (subst (λ (xs : List ℕ). Contains xs k) (listed_suc seen file n) h)) [
+  | inl there ↦ let rest = listed_is seen file n k there in (omega (arith, rest.0), rest.1)
   | inr here ↦ (omega (arith, here.0), subst (Repeats seen file) here.0 here.1)
 ]
 
-is_gone : (seen : List (List ℕ)) (file : List ℕ) (n k : ℕ) → k < n → Repeats seen file k → Contains (dropped_below seen file n) k
-is_gone seen file zero k low is = absurd (omega (arith, low))
-is_gone seen file (suc n) k low is = subst (λ (xs : List ℕ). Contains xs k) (sym (gone_suc seen file n)) (elim (cases_eq k n) [
+is_listed : (seen : List (List ℕ)) (file : List ℕ) (n k : ℕ) → k < n → Repeats seen file k → Contains (dropped_below seen file n) k
+is_listed seen file zero k low is = absurd (omega (arith, low))
+is_listed seen file (suc n) k low is = subst (λ (xs : List ℕ). Contains xs k) (sym (listed_suc seen file n)) (elim (cases_eq k n) [
   | inl same ↦
       subst (λ (b : Bool). Contains (cond b (dropped_below seen file n ++ n ∷ []) (dropped_below seen file n)) k) (sym (subst (Repeats seen file) same is))
       (subst (Contains (dropped_below seen file n ++ n ∷ [])) (sym same) (Contains-push (dropped_below seen file n) n))
-  | inr other ↦ still_gone (was_seen (seen_below seen file n) (group_signature file n)) n (dropped_below seen file n) k (is_gone seen file n k (omega (arith, low, other)) is)
+  | inr other ↦ still_listed (was_seen (seen_below seen file n) (group_signature file n)) n (dropped_below seen file n) k (is_listed seen file n k (omega (arith, low, other)) is)
 ])
 
 -- they rise
@@ -171,9 +171,9 @@ or_one_higher false xs n rising all = rising
 or_one_higher true xs n rising all = one_higher xs n rising all
 
 rises : (seen : List (List ℕ)) (file : List ℕ) (n : ℕ) → IsStrictlyIncreasing (dropped_below seen file n)
-rises seen file zero = subst IsStrictlyIncreasing (sym (none_gone seen file)) (λ k within. absurd (omega (arith, within)))
-rises seen file (suc n) = subst IsStrictlyIncreasing (sym (gone_suc seen file n))
-    (or_one_higher (was_seen (seen_below seen file n) (group_signature file n)) (dropped_below seen file n) n (rises seen file n) (λ k h. (gone_is seen file n k h).0))
+rises seen file zero = subst IsStrictlyIncreasing (sym (none_listed seen file)) (λ k within. absurd (omega (arith, within)))
+rises seen file (suc n) = subst IsStrictlyIncreasing (sym (listed_suc seen file n))
+    (or_one_higher (was_seen (seen_below seen file n) (group_signature file n)) (dropped_below seen file n) n (rises seen file n) (λ k h. (listed_is seen file n k h).0))
 
 -- ---- all of them
 abbrev after : List (List ℕ) → List (List ℕ)
@@ -201,17 +201,17 @@ repeats earlier file k d = is_among (seen_below (after earlier) file k) (group_s
   | inr has ↦ to_below (after earlier) file k has.0 d.signature has.1 has.2
 ])
 
-pub gone_are_dropped : (earlier : List (List ℕ)) (file : List ℕ) → AreDroppedGroups earlier file (dropped_groups (after earlier) file)
-gone_are_dropped earlier file = record {
+pub lists_dropped : (earlier : List (List ℕ)) (file : List ℕ) → AreDroppedGroups earlier file (dropped_groups (after earlier) file)
+lists_dropped earlier file = record {
   rising = rises (after earlier) file (section_count file);
   are = λ k. (
-    (λ h. let is = gone_is (after earlier) file (section_count file) k h in is_dropped earlier file k is.0 is.1),
-    (λ d. is_gone (after earlier) file (section_count file) k d.inside (repeats earlier file k d)),
+    (λ h. let is = listed_is (after earlier) file (section_count file) k h in is_dropped earlier file k is.0 is.1),
+    (λ d. is_listed (after earlier) file (section_count file) k d.inside (repeats earlier file k d)),
   );
 }
 
 -- and there is one such list
-pub dropped_are_gone : (earlier : List (List ℕ)) (file : List ℕ) (numbers : List ℕ) → AreDroppedGroups earlier file numbers → dropped_groups (after earlier) file ≡ numbers
-dropped_are_gone earlier file numbers d =
-    let own = gone_are_dropped earlier file in
+pub lists_no_other : (earlier : List (List ℕ)) (file : List ℕ) (numbers : List ℕ) → AreDroppedGroups earlier file numbers → dropped_groups (after earlier) file ≡ numbers
+lists_no_other earlier file numbers d =
+    let own = lists_dropped earlier file in
     same_members (dropped_groups (after earlier) file) numbers own.rising d.rising (λ k c. (d.are k).1 ((own.are k).0 c)) (λ k c. (own.are k).1 ((d.are k).0 c))

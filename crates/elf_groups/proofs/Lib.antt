@@ -1,7 +1,7 @@
 pub mod WholeBlocks
-pub mod Known
+pub mod NumberedText
 pub mod Signatures
 pub mod Runs
-pub mod Gone
+pub mod Listed
 pub mod Dropped
 mod Rising

@@ -10,8 +10,8 @@ use Rattle.std.proofs.lemmas.List.Elements.{All-head, All-tail, All-cons}
 use Rattle.std.proofs.lemmas.List.Sums.{position_or_len_is, prefix_len_passes, prefix_len_stops}
 use Rattle.elf_read.specs.Number.{LiesAt}
 use Rattle.elf_read.proofs.FirstZero.{is_zero, before_zero, before_zero-within}
-use Rattle.elf_groups.specs.declared.ends.Run.{Run}
-use Rattle.elf_groups.specs.Ends.{AreNotZero, IsFreeRun}
+use Rattle.elf_groups.specs.declared.string_ends.Run.{Run}
+use Rattle.elf_groups.specs.StringEnds.{AreNotZero, IsFreeRun}
 
 abbrev not_zero : ℕ → Bool
 not_zero b = not (is_zero b)

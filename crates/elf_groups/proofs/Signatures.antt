@@ -13,9 +13,9 @@ use Rattle.std.proofs.lemmas.List.{append_cancel_left, length-append, length-dro
 use Rattle.std.proofs.Math.Seq.{take-append_seam}
 use Rattle.std.proofs.Common.{◌≡◌, ℕ, Bool, true, false, All, List, [], ◌∷◌, ◌++◌, ◌+◌, ◌-◌, ◌*◌, ◌/◌, ◌%◌, ◌<◌, min, length, refl, sym, ap, ◌∙◌, zero, suc, ◌≤◌, take, drop, Result, Ok, Err, OnOk, arith}
 use Rattle.elf_read.specs.Number.{window, LiesAt}
-use Rattle.elf_groups.specs.declared.blocks.Blocks.{Blocks}
-use Rattle.elf_groups.specs.Blocks.{AreBlocks, KeepsNumbers, IsOfBlocks, Numbers, text_of}
-use Rattle.elf_groups.specs.Seen.{IsKeptIn, is_kept_as}
+use Rattle.elf_groups.specs.declared.text_numbers.TextNumbers.{TextNumbers}
+use Rattle.elf_groups.specs.TextNumbers.{AreBlocks, KeepsNumbers, IsOfBlocks, Numbers, text_of}
+use Rattle.elf_groups.specs.SeenSignatures.{IsKeptIn, is_kept_as}
 use Rattle.elf_groups.proofs.WholeBlocks.{Key, key_cmp, numbered_is_whole, one_number, tied}
 
 -- ---- on tests
@@ -89,7 +89,7 @@ rest_is_whole signature whole behind =
     let len : length whole ≡ length signature - length signature % 256 = ap length behind ∙ length-drop (length signature % 256) signature in
     (length signature / 256, omega (arith, len))
 
-pub own_key : (blocks : Blocks) (signature front whole : List ℕ) (key : Key) → key.1.now ≡ front → front ≡ take (length signature % 256) signature → Numbers blocks key.0 whole → IsKeptIn blocks key
+pub own_key : (blocks : TextNumbers) (signature front whole : List ℕ) (key : Key) → key.1.now ≡ front → front ≡ take (length signature % 256) signature → Numbers blocks key.0 whole → IsKeptIn blocks key
 own_key blocks signature front whole key is before number =
     let short : length front < 256 = front_is_short signature front before in
     let same : length key.1.now ≡ length front = ap length is in
@@ -110,7 +110,7 @@ same_fronts f g x y short_f short_g whole_x whole_y same =
     sym (take-append_seam f x) ∙ ap (take (length f)) same ∙ ap (λ (n : ℕ). take n (g ++ y)) len ∙ take-append_seam g y
 
 -- keys are one where their signatures are
-one_key : (blocks : Blocks) (a b : Key) → AreBlocks blocks → IsKeptIn blocks a → IsKeptIn blocks b → a.1.now ++ text_of blocks a.0 ≡ b.1.now ++ text_of blocks b.0 → is_eq (key_cmp a b) ≡ true
+one_key : (blocks : TextNumbers) (a b : Key) → AreBlocks blocks → IsKeptIn blocks a → IsKeptIn blocks b → a.1.now ++ text_of blocks a.0 ≡ b.1.now ++ text_of blocks b.0 → is_eq (key_cmp a b) ≡ true
 one_key blocks a b are kept_a kept_b same =
     let x = text_of blocks a.0 in
     let y = text_of blocks b.0 in
@@ -118,43 +118,43 @@ one_key blocks a b are kept_a kept_b same =
     let ends : text_of blocks a.0 ≡ text_of blocks b.0 = append_cancel_left b.1.now x y (ap (λ (f : List ℕ). f ++ x) (sym fronts) ∙ same) in
     tied_by a b (one_number blocks a.0 b.0 y are (record { below = kept_a.number.below; text = ends }) kept_b.number) fronts
 
-key_test : (blocks : Blocks) (key k : Key) → AreBlocks blocks → IsKeptIn blocks key → IsKeptIn blocks k → is_eq (key_cmp key k) ≡ is_kept_as blocks (key.1.now ++ text_of blocks key.0) k
+key_test : (blocks : TextNumbers) (key k : Key) → AreBlocks blocks → IsKeptIn blocks key → IsKeptIn blocks k → is_eq (key_cmp key k) ≡ is_kept_as blocks (key.1.now ++ text_of blocks key.0) k
 key_test blocks key k are own other =
     both_or_none (is_eq (key_cmp key k)) (is_kept_as blocks (key.1.now ++ text_of blocks key.0) k)
     (λ tie. (bytes_eq-Decides (key.1.now ++ text_of blocks key.0) (k.1.now ++ text_of blocks k.0)).1 (ap (λ (n : ℕ). key.1.now ++ text_of blocks n) (same_numbers key k tie) ∙ ap (λ (xs : List ℕ). xs ++ text_of blocks k.0) (same_bytes key k tie)))
     (λ same. one_key blocks key k are own other ((bytes_eq-Decides (key.1.now ++ text_of blocks key.0) (k.1.now ++ text_of blocks k.0)).0 same))
 
 -- the test of the order is the test of the signature
-pub any_same : (blocks : Blocks) (key : Key) (keys : List Key) → AreBlocks blocks → IsKeptIn blocks key → All (IsKeptIn blocks) keys → list_any (λ k. is_eq (key_cmp key k)) keys ≡ list_any (is_kept_as blocks (key.1.now ++ text_of blocks key.0)) keys
+pub any_same : (blocks : TextNumbers) (key : Key) (keys : List Key) → AreBlocks blocks → IsKeptIn blocks key → All (IsKeptIn blocks) keys → list_any (λ k. is_eq (key_cmp key k)) keys ≡ list_any (is_kept_as blocks (key.1.now ++ text_of blocks key.0)) keys
 any_same blocks key [] are own each = refl
 any_same blocks key (k ∷ ks) are own each =
     ap (λ (b : Bool). b || list_any (λ x. is_eq (key_cmp key x)) ks) (key_test blocks key k are own (All-head (IsKeptIn blocks) k ks each))
     ∙ ap (λ (b : Bool). is_kept_as blocks (key.1.now ++ text_of blocks key.0) k || b) (any_same blocks key ks are own (All-tail (IsKeptIn blocks) k ks each))
 
 -- ---- with more numbers
-same_text : (old new : Blocks) (n : ℕ) → KeepsNumbers old new → Numbers old n (text_of old n) → text_of new n ≡ text_of old n
+same_text : (old new : TextNumbers) (n : ℕ) → KeepsNumbers old new → Numbers old n (text_of old n) → text_of new n ≡ text_of old n
 same_text old new n grows number = (grows n (text_of old n) number).text
 
-still_kept : (old new : Blocks) (k : Key) → KeepsNumbers old new → IsKeptIn old k → IsKeptIn new k
+still_kept : (old new : TextNumbers) (k : Key) → KeepsNumbers old new → IsKeptIn old k → IsKeptIn new k
 still_kept old new k grows kept = record {
   short = kept.short;
   number = record { below = (grows k.0 (text_of old k.0) kept.number).below; text = refl };
 }
 
-pub all_still_kept : (old new : Blocks) (keys : List Key) → KeepsNumbers old new → All (IsKeptIn old) keys → All (IsKeptIn new) keys
+pub all_still_kept : (old new : TextNumbers) (keys : List Key) → KeepsNumbers old new → All (IsKeptIn old) keys → All (IsKeptIn new) keys
 all_still_kept old new keys grows each k d low = still_kept old new _ grows (each k d low)
 
-pub any_still_kept : (old new : Blocks) (q : List ℕ) (keys : List Key) → KeepsNumbers old new → All (IsKeptIn old) keys → list_any (is_kept_as new q) keys ≡ list_any (is_kept_as old q) keys
+pub any_still_kept : (old new : TextNumbers) (q : List ℕ) (keys : List Key) → KeepsNumbers old new → All (IsKeptIn old) keys → list_any (is_kept_as new q) keys ≡ list_any (is_kept_as old q) keys
 any_still_kept old new q [] grows each = refl
 any_still_kept old new q (k ∷ ks) grows each =
     ap (λ (xs : List ℕ). bytes_eq q (k.1.now ++ xs) || list_any (is_kept_as new q) ks) (same_text old new k.0 grows (All-head (IsKeptIn old) k ks each).number)
     ∙ ap (λ (b : Bool). is_kept_as old q k || b) (any_still_kept old new q ks grows (All-tail (IsKeptIn old) k ks each))
 
 -- ---- one signature more
-kept_alike : (blocks : Blocks) (q : List ℕ) (a b : Key) → is_eq (key_cmp a b) ≡ true → is_kept_as blocks q a ≡ is_kept_as blocks q b
+kept_alike : (blocks : TextNumbers) (q : List ℕ) (a b : Key) → is_eq (key_cmp a b) ≡ true → is_kept_as blocks q a ≡ is_kept_as blocks q b
 kept_alike blocks q a b e = ap (λ (n : ℕ). bytes_eq q (a.1.now ++ text_of blocks n)) (same_numbers a b e) ∙ ap (λ (xs : List ℕ). bytes_eq q (xs ++ text_of blocks b.0)) (same_bytes a b e)
 
-pub seen_more : (blocks : Blocks) (q signature : List ℕ) (key : Key) (keys new : List Key) (seen : List (List ℕ)) → signature ≡ key.1.now ++ text_of blocks key.0 → new ≡ insert_key key_cmp keys key → list_any (is_kept_as blocks q) keys ≡ list_any (bytes_eq q) seen
+pub seen_more : (blocks : TextNumbers) (q signature : List ℕ) (key : Key) (keys new : List Key) (seen : List (List ℕ)) → signature ≡ key.1.now ++ text_of blocks key.0 → new ≡ insert_key key_cmp keys key → list_any (is_kept_as blocks q) keys ≡ list_any (bytes_eq q) seen
     → list_any (is_kept_as blocks q) new ≡ list_any (bytes_eq q) (seen ++ signature ∷ [])
 seen_more blocks q signature key keys new seen is e h =
     ap (λ (ks : List Key). list_any (is_kept_as blocks q) ks) e

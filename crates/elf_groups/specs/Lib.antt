@@ -1,5 +1,5 @@
 pub mod Groups
-pub mod Ends
-pub mod Blocks
-pub mod Seen
+pub mod StringEnds
+pub mod TextNumbers
+pub mod SeenSignatures
 pub mod Dropped

@@ -7,10 +7,10 @@ ghost use Rattle.elf_read.specs.Input.{file};
 ghost use Rattle.elf_read.specs.Views.{text_bytes};
 ghost use Rattle.elf_groups.specs.Groups.{group_signature};
 ghost use Rattle.elf_groups.specs.Groups.{dropped_groups, was_seen, seen_after, with_signature};
-ghost use Rattle.elf_groups.specs.Seen.{HasSeen, HasTexts};
+ghost use Rattle.elf_groups.specs.SeenSignatures.{HasSeen, HasTexts};
 
-use crate::blocks::{BLOCK, Blocks};
-use crate::file_texts::FileTexts;
+use crate::file_strings::FileStrings;
+use crate::text_numbers::{BLOCK, TextNumbers};
 use elf_read::{ElfInput, Text};
 use std::alloc::{AllocError, Global};
 use std::collections::BTreeSet;
@@ -18,19 +18,19 @@ use std::collections::BTreeSet;
 /// The signatures of the COMDAT groups that were seen. Many may be ends of one long text, so whole blocks are compared by
 /// their numbers.
 #[derive(Drop)]
-pub struct Seen<'a> {
-    blocks: Blocks<'a>,
+pub struct SeenSignatures<'a> {
+    blocks: TextNumbers<'a>,
     /// Each by the number of its whole blocks, and what comes before these.
     signatures: BTreeSet<(usize, &'a [u8])>,
 }
 
-impl<'a> Seen<'a> {
+impl<'a> SeenSignatures<'a> {
     /// Begins with no signatures.
-    pub fn new(alloc: Global) -> Seen<'a>
+    pub fn new(alloc: Global) -> SeenSignatures<'a>
         ensures { HasSeen result [] }
     {
-        Seen {
-            blocks: Blocks::new(alloc),
+        SeenSignatures {
+            blocks: TextNumbers::new(alloc),
             signatures: BTreeSet::new(alloc),
         }
     }
@@ -38,7 +38,7 @@ impl<'a> Seen<'a> {
     // Puts a signature at a place of a file into the set, and returns whether the set had it.
     fn is_repeated(
         &mut self,
-        texts: &mut FileTexts,
+        texts: &mut FileStrings,
         place: u64,
         signature: &'a [u8],
     ) -> Result<bool, AllocError>
@@ -55,7 +55,7 @@ impl<'a> Seen<'a> {
     // Puts a text of a file into the set, and returns whether the set had it.
     fn is_text_repeated(
         &mut self,
-        texts: &mut FileTexts,
+        texts: &mut FileStrings,
         text: &Text<'a>,
     ) -> Result<bool, AllocError>
         requires { text.now.place + length text.now.rest.now < 2 ^ 64 }
@@ -70,13 +70,13 @@ impl<'a> Seen<'a> {
 
     // Returns whether a section is a COMDAT group whose signature the set had, and puts the signature into it.
     #[tactic(auto, unfolding(crate::specs::Groups::group_signature))]
-    fn is_gone(
+    fn is_dropped(
         &mut self,
-        texts: &mut FileTexts,
+        texts: &mut FileStrings,
         elf: &ElfInput<'a>,
         i: u32,
     ) -> Result<bool, AllocError>
-        ensures gone { IfOk result (λ gone. (seen : List (List ℕ)) → HasSeen self.old seen → HasTexts (file elf.now) self.old.blocks texts.old → gone ≡ was_seen seen (group_signature (file elf.now) i)) }
+        ensures dropped { IfOk result (λ dropped. (seen : List (List ℕ)) → HasSeen self.old seen → HasTexts (file elf.now) self.old.blocks texts.old → dropped ≡ was_seen seen (group_signature (file elf.now) i)) }
         ensures seen { OnOk result ((seen : List (List ℕ)) → HasSeen self.old seen → HasTexts (file elf.now) self.old.blocks texts.old → HasSeen self.new (with_signature seen (group_signature (file elf.now) i))) }
         ensures texts { OnOk result ((seen : List (List ℕ)) → HasSeen self.old seen → HasTexts (file elf.now) self.old.blocks texts.old → HasTexts (file elf.now) self.new.blocks texts.new) }
     {
@@ -103,16 +103,16 @@ impl<'a> Seen<'a> {
         alloc: Global,
         elf: &ElfInput<'a>,
     ) -> Result<Vec<u32>, AllocError>
-        ensures gone { IfOk result (λ gone. (seen : List (List ℕ)) → HasSeen self.old seen → gone.items ≡ dropped_groups seen (file elf.now)) }
+        ensures dropped { IfOk result (λ dropped. (seen : List (List ℕ)) → HasSeen self.old seen → dropped.items ≡ dropped_groups seen (file elf.now)) }
         ensures seen { OnOk result ((seen : List (List ℕ)) → HasSeen self.old seen → HasSeen self.new (seen_after seen (file elf.now))) }
     {
-        let mut texts = FileTexts::new(alloc);
-        let mut gone = Vec::new(alloc);
+        let mut texts = FileStrings::new(alloc);
+        let mut dropped = Vec::new(alloc);
         for i in 0..elf.sections() {
-            if self.is_gone(&mut texts, elf, i)? {
-                gone.push(i)?;
+            if self.is_dropped(&mut texts, elf, i)? {
+                dropped.push(i)?;
             }
         }
-        Ok(gone)
+        Ok(dropped)
     }
 }

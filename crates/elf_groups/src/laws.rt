@@ -9,6 +9,6 @@ ghost use Rattle.elf_groups.specs.Groups.{dropped_groups, seen_after, seen_in};
 /// more the signatures that were seen are those before it and its own.
 pub fn groups_of_earlier_signatures_are_dropped()
     ensures next { (earlier : List (List ℕ)) (file : List ℕ) → seen_in [] (earlier ++ file ∷ []) ≡ seen_after (seen_in [] earlier) file }
-    ensures gone { (earlier : List (List ℕ)) (file : List ℕ) → AreDroppedGroups earlier file (dropped_groups (seen_in [] earlier) file) }
+    ensures dropped { (earlier : List (List ℕ)) (file : List ℕ) → AreDroppedGroups earlier file (dropped_groups (seen_in [] earlier) file) }
     ensures only { (earlier : List (List ℕ)) (file : List ℕ) (numbers : List ℕ) → AreDroppedGroups earlier file numbers → dropped_groups (seen_in [] earlier) file ≡ numbers }
 {}

@@ -10,7 +10,7 @@ use Rattle.elf_read.specs.Header.{header_fields}
 use Rattle.elf_read.specs.Number.{lies_in}
 use Rattle.elf_read.specs.Sections.{segment_total}
 use Rattle.elf_read.proofs.Each.{both_fine}
-use Rattle.core_notes.specs.Room.{HeadersLie}
+use Rattle.core_notes.specs.TotalSize.{HeadersLie}
 
 passes : (test : Bool) (e : ElfFault) → unless test e ≡ Ok tt → test ≡ true
 passes true e h = refl

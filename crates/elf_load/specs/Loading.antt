@@ -8,7 +8,7 @@ use Rattle.elf_read.specs.Checks.{program_headers_check}
 use Rattle.elf_read.specs.Header.{p_vaddr}
 use Rattle.elf_read.specs.Parsing.{file_check}
 use Rattle.elf_read.specs.Sections.{segment_total}
-use Rattle.core_notes.specs.Room.{note_room_check}
+use Rattle.core_notes.specs.TotalSize.{note_room_check}
 use Rattle.elf_load.specs.declared.fault.LoadFault.{LoadFault}
 use Rattle.elf_load.specs.declared.fault.LoadFault.TheVariants.{Elf, NotLoaded}
 use Rattle.elf_load.specs.declared.mapping.Mapping.{Mapping}

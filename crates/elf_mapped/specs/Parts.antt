@@ -10,7 +10,7 @@ use Rattle.elf_read.specs.Linked.{linked_file}
 use Rattle.elf_read.specs.Number.{text_in, window}
 use Rattle.elf_read.specs.Sections.{is_compressed, section_bytes, section_count, section_fields, section_name, segment_total}
 use Rattle.core_notes.specs.Listing.{notes_from, segment_items}
-use Rattle.core_notes.specs.Room.{note_room_check, note_size}
+use Rattle.core_notes.specs.TotalSize.{note_room_check, note_size}
 use Rattle.core_notes.specs.Segment.{segment_of}
 use Rattle.elf_mapped.specs.declared.parts.ProgramParts.{ProgramParts}
 use Rattle.elf_mapped.specs.declared.sframe.Sframe.{Sframe}

@@ -25,7 +25,7 @@ pub struct MappedElf {
 
 impl MappedElf {
     ghost use Rattle.std.specs.Prelude.{◌≡◌, ◌<◌, ◌^◌, false, length, Ok, Some, IfSome};
-    ghost use Rattle.core_notes.specs.Room.{note_room_check};
+    ghost use Rattle.core_notes.specs.TotalSize.{note_room_check};
     ghost use Rattle.core_notes.specs.SegmentNotes.{notes_left, segment_notes};
     ghost use Rattle.elf_read.specs.Header as head;
     ghost use Rattle.elf_read.specs.Sections as fields;

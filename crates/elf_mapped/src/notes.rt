@@ -3,7 +3,7 @@
 ghost use Rattle.std.specs.Prelude.{◌≡◌, ◌<◌, Ok, length, IsTrue, IfOk, IfSome};
 ghost use Rattle.elf_read.specs.Checking.{each_below};
 ghost use Rattle.elf_read.specs.Linked.{linked_file};
-ghost use Rattle.core_notes.specs.Room.{note_room_check};
+ghost use Rattle.core_notes.specs.TotalSize.{note_room_check};
 ghost use Rattle.sf_bytes.specs.Parts.{AreParts};
 ghost use Rattle.elf_mapped.specs.Parts.{AreNoteParts, IsNotePart, table_file};
 

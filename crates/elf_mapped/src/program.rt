@@ -51,7 +51,7 @@ pub enum ProgramFile<'a> {
 
 impl<'a> ProgramFile<'a> {
     ghost use Rattle.std.specs.Prelude.{Some, IfOk, IfSome};
-    ghost use Rattle.core_notes.specs.Room.{HeadersLie, note_room_check};
+    ghost use Rattle.core_notes.specs.TotalSize.{HeadersLie, note_room_check};
     ghost use Rattle.core_notes.specs.SegmentNotes.{notes_left, segment_notes};
     ghost use Rattle.elf_read.specs.Checking.{each_below, verdict};
     ghost use Rattle.elf_read.specs.Checks.{program_headers_check};

@@ -11,7 +11,7 @@ use Rattle.elf_read.specs.Linked.{IsLinkedHead, IsOnlyEhFrame}
 use Rattle.elf_read.specs.Number.{lies_in, window}
 use Rattle.elf_read.specs.InTurn.{table_check, used_check, content_check, checks_in_turn}
 use Rattle.elf_read.specs.Parsing.{file_check}
-use Rattle.elf_read.specs.Room.{is_read, read_size, read_size_below, room_check}
+use Rattle.elf_read.specs.TotalSize.{is_read, read_size, read_size_below, room_check}
 use Rattle.elf_read.specs.Sections.{has_bytes, name_table, section_bytes, section_count, section_header, section_fields, is_compressed, is_eh_frame, entry_count}
 use Rattle.elf_read.specs.Used.{names_eh_frame, is_used_rela, is_group, rela_check, rela_tables, group_check, group_tables, members_check, entries_check, entry_check, compressed_check}
 use Rattle.elf_read.proofs.LeastCompressed.{none_is_compressed}

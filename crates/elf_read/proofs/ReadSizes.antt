@@ -10,7 +10,7 @@ use Rattle.elf_read.specs.Checks.{ElfCheck, identity_check, purpose_check, core_
 use Rattle.elf_read.specs.Header.{is_core}
 use Rattle.elf_read.specs.InTurn.{table_check, used_check, content_check, checks_in_turn}
 use Rattle.elf_read.specs.Parsing.{file_check}
-use Rattle.elf_read.specs.Room.{is_read, read_size, read_size_below, room_check, HasRoom}
+use Rattle.elf_read.specs.TotalSize.{is_read, read_size, read_size_below, room_check, HasRoom}
 use Rattle.elf_read.specs.Sections.{section_bytes, section_count, section_header, section_total, is_eh_frame, entry_count}
 use Rattle.elf_read.specs.Used.{rela_check, group_check, compressed_check, entries_check, is_used_rela, is_group}
 use Rattle.elf_read.specs.declared.input.ElfInput.{ElfInput}

@@ -13,7 +13,7 @@ use Rattle.elf_read.specs.Header.{header_fields, is_core, program_header, p_offs
 use Rattle.elf_read.specs.Number.{lies_in, has_text}
 use Rattle.elf_read.specs.InTurn.{used_check, table_check, content_check, checks_in_turn}
 use Rattle.elf_read.specs.Parsing.{identity_rules, first_section_rules, core_rules, section_rules, name_rules, rela_rules, room_rules, group_rules, used_by, lowest, compressed_rules, entry_rules, file_rules, file_check, sections}
-use Rattle.elf_read.specs.Room.{is_read, read_size, read_size_below, room_check}
+use Rattle.elf_read.specs.TotalSize.{is_read, read_size, read_size_below, room_check}
 use Rattle.elf_read.specs.Sections.{section_header, section_fields, symbol_fields, rela_fields, section_bytes, section_count, segment_total, has_bytes, name_table, is_compressed, is_eh_frame, group_member, member_count, entry_count}
 use Rattle.elf_read.specs.Used.{is_used_rela, is_group, is_symbol_table, is_entry_table, rela_tables, rela_check, is_word_table, is_symbol, has_signature, group_tables, member_check, members_check, group_check, least, if_compressed, compressed_by, least_compressed, refused_compressed, compressed_check, is_sound_symbol, entry_check, entries_check}
 

@@ -4,7 +4,7 @@ use Rattle.elf_read.specs.Header.{is_core}
 use Rattle.elf_read.specs.Sections.{section_count}
 use Rattle.elf_read.specs.Checking.{◌>>◌, where_so, each_below}
 use Rattle.elf_read.specs.Checks.{ElfCheck, identity_check, purpose_check, needs_sections, first_section_check, core_check, sections_check, names_check}
-use Rattle.elf_read.specs.Room.{room_check}
+use Rattle.elf_read.specs.TotalSize.{room_check}
 use Rattle.elf_read.specs.Used.{rela_check, group_check, compressed_check, entries_check}
 
 -- the used sections of a file that is no core file

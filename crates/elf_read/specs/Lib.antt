@@ -5,7 +5,7 @@ pub mod SegmentFields
 pub mod Sections
 pub mod Checks
 pub mod Used
-pub mod Room
+pub mod TotalSize
 pub mod Compressed
 pub mod Parsing
 pub mod InTurn

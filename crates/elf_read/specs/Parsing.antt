@@ -9,7 +9,7 @@ use Rattle.elf_read.specs.Number.{lies_in, has_text}
 use Rattle.elf_read.specs.Header.{FileHeader, header_fields, is_core, program_header, p_offset, p_filesz}
 use Rattle.elf_read.specs.Sections.{section_header, section_fields, symbol_fields, rela_fields, section_count, segment_total, has_bytes, section_bytes, name_table, is_compressed, group_member, member_count, entry_count}
 use Rattle.elf_read.specs.Checks.{is_string_table}
-use Rattle.elf_read.specs.Room.{is_read}
+use Rattle.elf_read.specs.TotalSize.{is_read}
 use Rattle.elf_read.specs.Used.{is_used_rela, is_group, is_symbol_table, is_entry_table, least}
 
 -- the numbers of a file's sections

@@ -8,7 +8,7 @@ ghost use Rattle.elf_read.specs.Used as spec;
 use crate::fault::ElfFault;
 use crate::section_header::{header_place, sh_link};
 use crate::sections::{is_compressed, is_eh_frame};
-use crate::used::{is_group, is_used_rela};
+use crate::used_checks::{is_group, is_used_rela};
 
 // Returns the lesser of two numbers, where there are some.
 fn least(a: Option<u32>, b: Option<u32>) -> Option<u32>

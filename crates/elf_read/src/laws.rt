@@ -4,7 +4,7 @@ ghost use Rattle.elf_read.specs.Checking.{first_broken};
 ghost use Rattle.elf_read.specs.Compressed.{NoneIsCompressed};
 ghost use Rattle.elf_read.specs.Input.{file};
 ghost use Rattle.elf_read.specs.Parsing.{compressed_rules};
-ghost use Rattle.elf_read.specs.Room.{HasRoom};
+ghost use Rattle.elf_read.specs.TotalSize.{HasRoom};
 
 use crate::input::ElfInput;
 

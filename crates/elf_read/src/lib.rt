@@ -43,15 +43,15 @@ mod number;
 mod parsing;
 mod program_header;
 mod reading;
-mod room;
 mod section_header;
 mod sections;
 mod segment_fields;
 mod segments;
 mod text;
-mod used;
+mod total_size;
+mod used_checks;
 mod view;
-mod zeros;
+mod zero_index;
 
 pub use entry::{GroupHead, Rela, Section, Segment, Symbol};
 pub use fault::ElfFault;

@@ -11,10 +11,10 @@ use crate::fault::ElfFault;
 use crate::header::is_core_file;
 use crate::identity::{check_first_section, check_identity, check_purpose, needs_sections};
 use crate::names::{check_names, check_sections};
-use crate::room::check_room;
 use crate::sections::section_count;
 use crate::segments::check_core;
-use crate::used::{check_all_entries, check_groups, check_relas};
+use crate::total_size::check_room;
+use crate::used_checks::{check_all_entries, check_groups, check_relas};
 
 // Checks section 0's header, where it is needed.
 #[tactic(auto, unfolding(crate::specs::InTurn::table_check))]

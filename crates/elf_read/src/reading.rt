@@ -16,7 +16,7 @@ use crate::section_header::{
 };
 use crate::sections::{name_table, section_bytes, section_count};
 use crate::text::Text;
-use crate::used::is_group;
+use crate::used_checks::is_group;
 
 /// Returns the header of a section.
 pub fn section_at(file: &[u8], i: u32) -> Section

@@ -2,7 +2,7 @@
 use Rattle.std.specs.Prelude.{◌&&◌, ◌==◌}
 use Rattle.std.proofs.Common.{◌≡◌, ℕ, zero, suc, ◌+◌, ◌*◌, ◌<◌, ◌≤◌, ◌^◌, Bool, true, false, IsTrue, List, [], ◌∷◌, ◌++◌, length, Ok, Err, refl, sym, ap, subst, ◌∙◌, arith, if◌then◌else◌}
 use Rattle.elf_read.specs.Header.{is_rel}
-use Rattle.elf_read.specs.Room.{read_size, read_size_below, HasRoom}
+use Rattle.elf_read.specs.TotalSize.{read_size, read_size_below, HasRoom}
 use Rattle.elf_read.specs.Sections.{section_count, section_fields, entry_count}
 use Rattle.elf_read.specs.Used.{names_eh_frame, is_used_rela}
 use Rattle.elf_read.proofs.ReadSizes.{read_size_below-none, read_size_below-more}

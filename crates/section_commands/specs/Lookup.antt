@@ -13,7 +13,7 @@ use Rattle.sf_words.specs.Items.{Section}
 use Rattle.sf_words.specs.Words.{IsSectionWord, SectionWords, words_of_section}
 use Rattle.section_commands.specs.declared.lookup.Lookup.{Lookup}
 use Rattle.section_commands.specs.declared.made.Outcome.{Outcome}
-use Rattle.section_commands.specs.declared.made.Outcome.TheVariants.{Done, No}
+use Rattle.section_commands.specs.declared.made.Outcome.TheVariants.{Done, Negative}
 use Rattle.section_commands.specs.Coming.{Coming}
 use Rattle.section_commands.specs.SectionComes.{ShowingComes}
 
@@ -40,7 +40,7 @@ pair_of found = (head_of found.func, found.row)
 
 -- a row was found, or none
 abbrev pub found_outcome : Option FoundRow → Outcome
-found_outcome None = No
+found_outcome None = Negative
 found_outcome (Some found) = Done
 
 -- the outcome and the text of the row that holds at an address

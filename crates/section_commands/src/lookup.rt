@@ -35,7 +35,7 @@ fn row_at<'m>(alloc: Global, view: &View<'_>, pc: u64) -> Result<Made<'m>, NoMem
 {
     let (outcome, text) = match find(view, pc) {
         Some(row) => (Outcome::Done, found(alloc, pc, Some((row.func, row.row)))?),
-        None => (Outcome::No, found(alloc, pc, None)?),
+        None => (Outcome::Negative, found(alloc, pc, None)?),
     };
     Ok(Made {
         outcome,

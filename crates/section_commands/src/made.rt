@@ -13,7 +13,7 @@ pub enum Outcome {
     /// It did what it was asked: status 0.
     Done,
     /// The answer is no: a look-up found nothing, or a comparison found a difference. Status 1.
-    No,
+    Negative,
 }
 
 /// A section or none, and what is printed.

@@ -28,7 +28,7 @@ use Rattle.sf_asm.proofs.GatheredInputs.{are_read, by_parts, parts_of}
 use Rattle.sf_asm.proofs.Kept.{not_overlapping_apart}
 use Rattle.sf_asm.proofs.Limits.{within_limits, few_functions, few_rows}
 use Rattle.sf_asm.proofs.Machines.{is_one, one_is_unmixed}
-use Rattle.sf_asm.proofs.Overlaps.{overlap_begins, overlap_passes, overlap_goes_on}
+use Rattle.sf_asm.proofs.OverlapLaws.{overlap_begins, overlap_passes, overlap_goes_on}
 
 both : (a b : Bool) → (a && b) ≡ true → (a ≡ true) × (b ≡ true)
 both true b e = (refl, e)

@@ -24,8 +24,8 @@ use Rattle.sf_express.proofs.Found.{SaysContent, row_said}
 use Rattle.sf_express.proofs.Alike.{recovers_alike}
 use Rattle.sf_express.proofs.Column.{own_column}
 use Rattle.sf_asm.specs.declared.entry.Entry.{Entry}
-use Rattle.sf_asm.specs.declared.entry.Outcome.{Outcome}
-use Rattle.sf_asm.specs.declared.entry.Outcome.TheVariants as outcome
+use Rattle.sf_asm.specs.declared.entry.Expressed.{Expressed}
+use Rattle.sf_asm.specs.declared.entry.Expressed.TheVariants as outcome
 use Rattle.sf_asm.specs.Entry.{kept_in, kept_of, spans_of}
 use Rattle.sf_asm.specs.Functions.{Function}
 use Rattle.sf_asm.specs.Kept.{full_row, says_of, facts_of, outcome_by, entry_of, is_kept, kept_functions}
@@ -57,9 +57,9 @@ find_kept pc (f ∷ fs) = at_omission (omission_of f.arch (facts_of f) (says_of 
     at_omission (Some omission) e others = rw e others
 
 -- ---- the same among functions in order
-abbrev kept_there : (pc : ℕ) → Outcome → Bool
+abbrev kept_there : (pc : ℕ) → Expressed → Bool
 kept_there pc (outcome.Kept f) = contains pc f
-kept_there pc (outcome.Left omission) = false
+kept_there pc (outcome.LeftOut omission) = false
 
 abbrev is_there : (pc : ℕ) → Entry → Bool
 is_there pc e = kept_there pc e.outcome
@@ -77,18 +77,18 @@ find_entry pc (e ∷ es) = at_outcome e.outcome refl (find_entry pc es)
     at_test f is true t others = rw t (sym (ap kept_in is))
     at_test f is false t others = rw t others
 
-    at_outcome : (o : Outcome) → e.outcome ≡ o → find (contains pc) (kept_of es) ≡ function_in_found (find (is_there pc) es) → find (contains pc) (kept_of (e ∷ es)) ≡ function_in_found (find (is_there pc) (e ∷ es))
+    at_outcome : (o : Expressed) → e.outcome ≡ o → find (contains pc) (kept_of es) ≡ function_in_found (find (is_there pc) es) → find (contains pc) (kept_of (e ∷ es)) ≡ function_in_found (find (is_there pc) (e ∷ es))
     at_outcome (outcome.Kept f) is others =
-        ap (λ (o : Outcome). find (contains pc) (cons_option (kept_in o) (kept_of es))) is ∙ at_test f is (contains pc f) refl others
-        ∙ sym (ap (λ (o : Outcome). function_in_found (cond (kept_there pc o) (Some e) (find (is_there pc) es))) is)
-    at_outcome (outcome.Left omission) is others =
-        ap (λ (o : Outcome). find (contains pc) (cons_option (kept_in o) (kept_of es))) is ∙ others
-        ∙ sym (ap (λ (o : Outcome). function_in_found (cond (kept_there pc o) (Some e) (find (is_there pc) es))) is)
+        ap (λ (o : Expressed). find (contains pc) (cons_option (kept_in o) (kept_of es))) is ∙ at_test f is (contains pc f) refl others
+        ∙ sym (ap (λ (o : Expressed). function_in_found (cond (kept_there pc o) (Some e) (find (is_there pc) es))) is)
+    at_outcome (outcome.LeftOut omission) is others =
+        ap (λ (o : Expressed). find (contains pc) (cons_option (kept_in o) (kept_of es))) is ∙ others
+        ∙ sym (ap (λ (o : Expressed). function_in_found (cond (kept_there pc o) (Some e) (find (is_there pc) es))) is)
 
 -- a kept function has the addresses of its span
-abbrev HasSpan : Outcome → (start size : ℕ) → Type 0
+abbrev HasSpan : Expressed → (start size : ℕ) → Type 0
 HasSpan (outcome.Kept f) start size = (f.start ≡ start) × (f.size ≡ size)
-HasSpan (outcome.Left omission) start size = Unit {0}
+HasSpan (outcome.LeftOut omission) start size = Unit {0}
 
 abbrev IsSpanned : Entry → Type 0
 IsSpanned e = HasSpan e.outcome e.span.start e.span.size
@@ -102,9 +102,9 @@ unfolding function_of
 all_spanned [] = tt
 all_spanned (f ∷ fs) = (outcome_spanned f (omission_of f.arch (facts_of f) (says_of f)), all_spanned fs)
 
-there_within : (pc : ℕ) (o : Outcome) (start size : ℕ) → HasSpan o start size → kept_there pc o ≡ true → IsWithin pc start size
+there_within : (pc : ℕ) (o : Expressed) (start size : ℕ) → HasSpan o start size → kept_there pc o ≡ true → IsWithin pc start size
 there_within pc (outcome.Kept f) start size h t = rw (sym h.0, sym h.1) (within_span pc f.start f.size t)
-there_within pc (outcome.Left omission) start size h t = cc
+there_within pc (outcome.LeftOut omission) start size h t = cc
 
 spanned_there : (es : List Entry) → AllByRecursion IsSpanned es → (e : Entry) → Member es e → IsSpanned e
 spanned_there [] h e m = absurd m

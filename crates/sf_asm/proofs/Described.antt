@@ -25,7 +25,7 @@ use Rattle.sf_asm.specs.Sections.{SectionsAre, elf_sections, files_in, sections_
 use Rattle.sf_model.specs.declared.form.Form.{Form}
 use Rattle.sf_model.specs.declared.form.Form.TheVariants.{Elf, Bare}
 use Rattle.elf_groups.specs.Groups.{dropped_groups, seen_in}
-use Rattle.elf_groups.proofs.Dropped.{dropped_are_gone, gone_are_dropped, one_file_more}
+use Rattle.elf_groups.proofs.Dropped.{lists_no_other, lists_dropped, one_file_more}
 
 abbrev All : Type 0
 All = Result (List Function) AsmFault
@@ -143,11 +143,11 @@ are_sections arch item (s ∷ ss) = (section_functions arch item s, is_section a
 
 -- the groups that are dropped are those whose signature was seen
 found : (form : Form) (earlier : List (List ℕ)) (bytes : List ℕ) (base : ℕ) (r : Result (List CallFrames) AsmFault) → SectionsAre form earlier bytes base r → sections_by form (seen_in [] earlier) bytes base ≡ r
-found Elf earlier file base r h = ap (λ (groups : List ℕ). elf_sections groups file base) (dropped_are_gone earlier file h.0 h.1) ∙ sym h.2
+found Elf earlier file base r h = ap (λ (groups : List ℕ). elf_sections groups file base) (lists_no_other earlier file h.0 h.1) ∙ sym h.2
 found (Bare arch) earlier bytes base r h = sym h
 
 are_found : (form : Form) (earlier : List (List ℕ)) (bytes : List ℕ) (base : ℕ) → SectionsAre form earlier bytes base (sections_by form (seen_in [] earlier) bytes base)
-are_found Elf earlier file base = (dropped_groups (seen_in [] earlier) file, gone_are_dropped earlier file, refl)
+are_found Elf earlier file base = (dropped_groups (seen_in [] earlier) file, lists_dropped earlier file, refl)
 are_found (Bare arch) earlier bytes base = refl
 
 one_more : (form : Form) (earlier : List (List ℕ)) (bytes : List ℕ) → seen_in [] (earlier ++ files_in form bytes) ≡ seen_by form (seen_in [] earlier) bytes

@@ -11,11 +11,11 @@ use Rattle.sf_model.specs.declared.function.Func.{Func}
 use Rattle.sf_model.specs.declared.omission.Omission.{Omission}
 use Rattle.sf_model.specs.declared.omission.Reason.TheVariants.{EmptyRange}
 use Rattle.sf_model.specs.declared.omission.Span.{Span}
-use Rattle.sf_asm.specs.declared.gathering.Gathered.{Gathered}
+use Rattle.sf_asm.specs.declared.list_forms.Gathered.{Gathered}
 use Rattle.sf_model.specs.Function.{AreWritable}
 use Rattle.sf_asm.specs.declared.entry.Entry.{Entry}
-use Rattle.sf_asm.specs.declared.entry.Outcome.{Outcome}
-use Rattle.sf_asm.specs.declared.entry.Outcome.TheVariants.{Kept, Left}
+use Rattle.sf_asm.specs.declared.entry.Expressed.{Expressed}
+use Rattle.sf_asm.specs.declared.entry.Expressed.TheVariants.{Kept, LeftOut}
 use Rattle.sf_asm.specs.Kept.{outcome_by}
 use Rattle.sf_asm.specs.Entry.{kept_by_item, kept_of, of_item, omitted_of, spans_of}
 use Rattle.sf_asm.proofs.Kept.{kept_of-kept, kept_of-left}
@@ -50,7 +50,7 @@ kept_here item es e f is kept = ap kept_of (of_item-more item es e is) ∙ kept_
 kept_elsewhere : (item : ℕ) (es : List Entry) (e : Entry) → (e.span.origin.item ≡ item → ⊥) → kept_of (of_item item (es ++ e ∷ [])) ≡ kept_of (of_item item es)
 kept_elsewhere item es e is_not = ap kept_of (of_item-other item es e is_not)
 
-left_out : (item : ℕ) (es : List Entry) (e : Entry) (o : Omission) → e.outcome ≡ Left o → kept_of (of_item item (es ++ e ∷ [])) ≡ kept_of (of_item item es)
+left_out : (item : ℕ) (es : List Entry) (e : Entry) (o : Omission) → e.outcome ≡ LeftOut o → kept_of (of_item item (es ++ e ∷ [])) ≡ kept_of (of_item item es)
 left_out item es e o left = at_test (is_of item e) refl
   where
     at_test : (b : Bool) → is_of item e ≡ b → kept_of (of_item item (es ++ e ∷ [])) ≡ kept_of (of_item item es)
@@ -61,7 +61,7 @@ left_out item es e o left = at_test (is_of item e) refl
 -- the next of a list of functions, by its addresses and what becomes of it
 next_is : (g e : Entry) (given : Result Func Omission) → e.span ≡ g.span → g.outcome ≡ outcome_by given → outcome_by given ≡ e.outcome → g ≡ e
 next_is g e given span outcome is =
-    ap (λ (s : Span). record { span = s; outcome = g.outcome }) (sym span) ∙ ap (λ (o : Outcome). record { span = e.span; outcome = o }) (outcome ∙ is)
+    ap (λ (s : Span). record { span = s; outcome = g.outcome }) (sym span) ∙ ap (λ (o : Expressed). record { span = e.span; outcome = o }) (outcome ∙ is)
 
 pub one_more : (es : List Entry) (i : ℕ) (e : Entry) (given : Result Func Omission) → i < length es → e.span ≡ (get_or es i e).span → (get_or es i e).outcome ≡ outcome_by given → outcome_by given ≡ e.outcome → (get_or es i e ≡ e) × (take (i + 1) es ≡ take i es ++ e ∷ [])
 one_more es i e given low span outcome is =
@@ -71,7 +71,7 @@ one_more es i e given low span outcome is =
 -- its item is one of these
 pub span_within : (first end : ℕ) (es : List Entry) (i : ℕ) (span : Span) → i < length es → All (λ (x : Entry). (first ≤ x.span.origin.item) × (x.span.origin.item < end)) es → ((d : Entry) → span ≡ (get_or es i d).span) → (first ≤ span.origin.item) × (span.origin.item < end)
 span_within first end es i span low all is =
-    let d : Entry = record { span = span; outcome = Left record { reason = EmptyRange; offset = None } } in
+    let d : Entry = record { span = span; outcome = LeftOut record { reason = EmptyRange; offset = None } } in
     subst (λ (s : Span). (first ≤ s.origin.item) × (s.origin.item < end)) (sym (is d)) (all i d low)
 
 -- each list has the kept functions of its input
@@ -81,7 +81,7 @@ AreHandedOut first lists es = (k : ℕ) (d : Vec Func Global) → k < length lis
 pub none_yet : (first : ℕ) (lists : List (Vec Func Global)) → All (λ (list : Vec Func Global). list.items ≡ []) lists → AreHandedOut first lists []
 none_yet first lists h = λ k d lt. h k d lt
 
-pub one_left : (first : ℕ) (lists : List (Vec Func Global)) (es : List Entry) (e : Entry) (o : Omission) → AreHandedOut first lists es → e.outcome ≡ Left o → AreHandedOut first lists (es ++ e ∷ [])
+pub one_left : (first : ℕ) (lists : List (Vec Func Global)) (es : List Entry) (e : Entry) (o : Omission) → AreHandedOut first lists es → e.outcome ≡ LeftOut o → AreHandedOut first lists (es ++ e ∷ [])
 one_left first lists es e o h left = λ k d lt. h k d lt ∙ sym (left_out (first + k) es e o left)
 
 pub one_kept : (first : ℕ) (lists : List (Vec Func Global)) (es : List Entry) (e : Entry) (f : Func) (i : ℕ) (old new : Vec Func Global) → AreHandedOut first lists es → e.outcome ≡ Kept f → e.span.origin.item ≡ first + i → i < length lists

@@ -16,9 +16,9 @@ use Rattle.sf_functions.specs.Order.{IsInOrder}
 use Rattle.sf_functions.proofs.ByStart.{seen_in_order}
 use Rattle.sf_asm.specs.declared.entries.Place.{Place}
 use Rattle.sf_asm.specs.declared.entry.Entry.{Entry}
-use Rattle.sf_asm.specs.declared.entry.Outcome.TheVariants as outcome
+use Rattle.sf_asm.specs.declared.entry.Expressed.TheVariants as outcome
 use Rattle.sf_asm.specs.declared.entry.Head.{Head}
-use Rattle.sf_asm.specs.declared.entry.Head.TheVariants.{Kept, Left}
+use Rattle.sf_asm.specs.declared.entry.Head.TheVariants.{Kept, LeftOut}
 use Rattle.sf_asm.specs.Entry.{IsSound, kept_of, omitted_of}
 use Rattle.sf_asm.specs.Heads.{ArePlacesOf, HasRows, HaveRows, IsKeptIn, IsPlaceIn, entries_in, entry_in, head_at, head_span, heads_at, is_kept_head, left_at, left_of, no_head, outcome_in, stored_at, stored_of}
 use Rattle.sf_asm.specs.Linking.{InOrder, start_of}
@@ -30,11 +30,11 @@ Keeps old new = (f : StoredFunction) → IsStored old f → IsStored new f × (s
 
 has_still : (old new : StoredRows) → Keeps old new → (x : Head) → HasRows old x → HasRows new x
 has_still old new keeps (Kept f origin) h = (keeps f h).0
-has_still old new keeps (Left o) h = tt
+has_still old new keeps (LeftOut o) h = tt
 
 same_still : (old new : StoredRows) → Keeps old new → (x : Head) → HasRows old x → outcome_in new x ≡ outcome_in old x
 same_still old new keeps (Kept f origin) h = ap outcome.Kept (keeps f h).1
-same_still old new keeps (Left o) h = refl
+same_still old new keeps (LeftOut o) h = refl
 
 have_by_recursion : (old new : StoredRows) → Keeps old new → (heads : List Head) → AllByRecursion (HasRows old) heads → AllByRecursion (HasRows new) heads
 have_by_recursion old new keeps [] h = tt
@@ -103,7 +103,7 @@ places_in_order rows heads old new were order =
 -- ---- addresses
 -- what stands past the end of a list of functions
 abbrev pub no_entry : Entry
-no_entry = record { span = head_span no_head; outcome = outcome.Left record { reason = EmptyRange; offset = None } }
+no_entry = record { span = head_span no_head; outcome = outcome.LeftOut record { reason = EmptyRange; offset = None } }
 
 -- the addresses of a function of a list, by its head
 pub span_of : (rows : StoredRows) (heads : List Head) (i : ℕ) (d : Entry) → i < length heads → (h : Head) → h ≡ get_or heads i no_head → head_span h ≡ (get_or (entries_in rows heads) i d).span
@@ -119,7 +119,7 @@ outcome_of rows heads i d lt h is =
 kept_one : (rows : StoredRows) (x : Head) (heads : List Head) → map (stored_in rows) (stored_of heads) ≡ kept_of (entries_in rows heads)
     → map (stored_in rows) (stored_of (x ∷ heads)) ≡ kept_of (entries_in rows (x ∷ heads))
 kept_one rows (Kept f origin) heads e = ap (λ (fs : List Func). stored_in rows f ∷ fs) e
-kept_one rows (Left o) heads e = e
+kept_one rows (LeftOut o) heads e = e
 
 pub kept_are : (rows : StoredRows) (heads : List Head) → map (stored_in rows) (stored_of heads) ≡ kept_of (entries_in rows heads)
 kept_are rows [] = refl
@@ -127,7 +127,7 @@ kept_are rows (x ∷ xs) = kept_one rows x xs (kept_are rows xs)
 
 left_one : (rows : StoredRows) (x : Head) (heads : List Head) → left_of heads ≡ omitted_of (entries_in rows heads) → left_of (x ∷ heads) ≡ omitted_of (entries_in rows (x ∷ heads))
 left_one rows (Kept f origin) heads e = e
-left_one rows (Left o) heads e = ap (λ (os : List Omitted). o ∷ os) e
+left_one rows (LeftOut o) heads e = ap (λ (os : List Omitted). o ∷ os) e
 
 pub left_are : (rows : StoredRows) (heads : List Head) → left_of heads ≡ omitted_of (entries_in rows heads)
 left_are rows [] = refl
@@ -135,7 +135,7 @@ left_are rows (x ∷ xs) = left_one rows x xs (left_are rows xs)
 
 stored_one : (rows : StoredRows) (x : Head) (heads : List Head) → HasRows rows x → AllByRecursion (IsStored rows) (stored_of heads) → AllByRecursion (IsStored rows) (stored_of (x ∷ heads))
 stored_one rows (Kept f origin) heads one others = (one, others)
-stored_one rows (Left o) heads one others = others
+stored_one rows (LeftOut o) heads one others = others
 
 stored_by_recursion : (rows : StoredRows) (heads : List Head) → AllByRecursion (HasRows rows) heads → AllByRecursion (IsStored rows) (stored_of heads)
 stored_by_recursion rows [] h = tt
@@ -159,11 +159,11 @@ kept_places heads places = filter (is_kept_at heads) places
 -- a kept function of a head, and `d` where it is left out
 abbrev pub kept_or : StoredFunction → Head → StoredFunction
 kept_or d (Kept f origin) = f
-kept_or d (Left o) = d
+kept_or d (LeftOut o) = d
 
 stored_step : (h : Head) (hs : List Head) → is_kept_head h ≡ false → stored_of (h ∷ hs) ≡ stored_of hs
 stored_step (Kept f origin) hs is = absurd (cc is)
-stored_step (Left o) hs is = refl
+stored_step (LeftOut o) hs is = refl
 
 kept_at_by : (heads : List Head) (p : Place) (ps : List Place) (b : Bool) → is_kept_at heads p ≡ b → stored_of (heads_at heads (kept_places heads ps)) ≡ stored_of (heads_at heads ps)
     → stored_of (heads_at heads (kept_places heads (p ∷ ps))) ≡ stored_of (heads_at heads (p ∷ ps))
@@ -193,7 +193,7 @@ all_kept heads (p ∷ ps) are = (are.0.1, all_kept heads ps are.1)
 
 length_by : (h : Head) (hs : List Head) → IsKept h → length (stored_of hs) ≡ length hs → length (stored_of (h ∷ hs)) ≡ length (h ∷ hs)
 length_by (Kept f origin) hs is others = ap suc others
-length_by (Left o) hs is others = absurd (cc is)
+length_by (LeftOut o) hs is others = absurd (cc is)
 
 length_kept : (heads : List Head) → AllByRecursion IsKept heads → length (stored_of heads) ≡ length heads
 length_kept [] are = refl
@@ -205,7 +205,7 @@ kept_len heads places are = length_kept (heads_at heads places) (all_kept heads 
 
 stored_by_number : (d : StoredFunction) (heads : List Head) (i : ℕ) → AllByRecursion IsKept heads → get_or (stored_of heads) i d ≡ kept_or d (get_or heads i no_head)
 stored_by_number d [] i are = refl
-stored_by_number d (Left o ∷ hs) i are = absurd (cc are.0)
+stored_by_number d (LeftOut o ∷ hs) i are = absurd (cc are.0)
 stored_by_number d (Kept f origin ∷ hs) zero are = refl
 stored_by_number d (Kept f origin ∷ hs) (suc i) are = stored_by_number d hs i are.1
 
@@ -220,11 +220,11 @@ kept_at_number d heads places i p are low =
 pub stored_of-kept : (heads : List Head) (x : Head) (f : StoredFunction) (origin : Origin) → x ≡ Kept f origin → stored_of (heads ++ x ∷ []) ≡ stored_of heads ++ f ∷ []
 stored_of-kept heads x f origin is = filter_map-append stored_at heads (x ∷ []) ∙ ap (λ (h : Head). stored_of heads ++ stored_of (h ∷ [])) is
 
-pub stored_of-left : (heads : List Head) (x : Head) (o : Omitted) → x ≡ Left o → stored_of (heads ++ x ∷ []) ≡ stored_of heads
+pub stored_of-left : (heads : List Head) (x : Head) (o : Omitted) → x ≡ LeftOut o → stored_of (heads ++ x ∷ []) ≡ stored_of heads
 stored_of-left heads x o is = filter_map-append stored_at heads (x ∷ []) ∙ ap (λ (h : Head). stored_of heads ++ stored_of (h ∷ [])) is ∙ append-nil (stored_of heads)
 
 pub left_of-kept : (heads : List Head) (x : Head) (f : StoredFunction) (origin : Origin) → x ≡ Kept f origin → left_of (heads ++ x ∷ []) ≡ left_of heads
 left_of-kept heads x f origin is = filter_map-append left_at heads (x ∷ []) ∙ ap (λ (h : Head). left_of heads ++ left_of (h ∷ [])) is ∙ append-nil (left_of heads)
 
-pub left_of-left : (heads : List Head) (x : Head) (o : Omitted) → x ≡ Left o → left_of (heads ++ x ∷ []) ≡ left_of heads ++ o ∷ []
+pub left_of-left : (heads : List Head) (x : Head) (o : Omitted) → x ≡ LeftOut o → left_of (heads ++ x ∷ []) ≡ left_of heads ++ o ∷ []
 left_of-left heads x o is = filter_map-append left_at heads (x ∷ []) ∙ ap (λ (h : Head). left_of heads ++ left_of (h ∷ [])) is

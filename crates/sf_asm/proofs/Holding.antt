@@ -26,7 +26,7 @@ use Rattle.sf_asm.specs.Functions.{Function, Object}
 use Rattle.sf_asm.specs.Kept.{entry_of, facts_of, is_kept, says_of}
 use Rattle.sf_asm.specs.Linking.{Gathers, limits_fault, or_later, overlap_fault, overlap_in}
 use Rattle.sf_asm.specs.Order.{are_apart}
-use Rattle.sf_asm.specs.Said.{form_content, has_form}
+use Rattle.sf_asm.specs.ContentAt.{form_content, has_form}
 use Rattle.sf_model.proofs.Unions.{Member, OnePasses}
 use Rattle.sf_asm.proofs.GatheredInputs.{are_read}
 use Rattle.sf_asm.proofs.Kept.{not_overlapping_apart}

@@ -16,14 +16,14 @@ use Rattle.sf_model.specs.declared.omission.Omitted.{Omitted}
 use Rattle.sf_model.specs.declared.omission.Span.{Span}
 use Rattle.sf_model.specs.Function.{IsWritable, AreWritable}
 use Rattle.sf_asm.specs.declared.entry.Entry.{Entry}
-use Rattle.sf_asm.specs.declared.entry.Outcome.{Outcome}
-use Rattle.sf_asm.specs.declared.entry.Outcome.TheVariants.{Kept, Left}
+use Rattle.sf_asm.specs.declared.entry.Expressed.{Expressed}
+use Rattle.sf_asm.specs.declared.entry.Expressed.TheVariants.{Kept, LeftOut}
 use Rattle.sf_asm.specs.Entry.{IsSound, IsSoundOutcome, kept_of, kept_in, omitted_of, omitted_in, spans_of}
 use Rattle.sf_asm.specs.declared.fault.GatherFault.{GatherFault}
 use Rattle.sf_asm.specs.Linking.{functions_fault, limits_fault, or_later, overlap_after, overlap_fault, overlap_in, overlap_with}
 use Rattle.sf_asm.specs.Order.{are_apart, rows_of, entry_rows}
 use Rattle.sf_asm.proofs.Limits.{few_functions, few_rows}
-use Rattle.sf_asm.proofs.Overlaps.{overlap_begins, overlap_passes, overlap_goes_on, overlap_ends}
+use Rattle.sf_asm.proofs.OverlapLaws.{overlap_begins, overlap_passes, overlap_goes_on, overlap_ends}
 
 -- each function starts at the end of the one before it, or behind it
 abbrev ApartFrom : ℕ → List Func → Type 0
@@ -44,7 +44,7 @@ skip_test end start size true skipped h none = grind (arith, nat_tests)
 skip_test end start size false skipped h none = grind (arith, nat_tests)
 
 -- one function before others that are apart
-kept_from : (arch : Arch) (end : ℕ) (span : Span) (outcome : Outcome) (es : List Entry) → IsSoundOutcome arch span.start span.size outcome
+kept_from : (arch : Arch) (end : ℕ) (span : Span) (outcome : Expressed) (es : List Entry) → IsSoundOutcome arch span.start span.size outcome
     → ((b : ℕ) → are_apart b es ≡ true → ApartFrom b (kept_of es))
     → are_apart end (record { span = span; outcome = outcome } ∷ es) ≡ true → ApartFrom end (kept_of (record { span = span; outcome = outcome } ∷ es))
 kept_from arch end span (Kept f) es one others h =
@@ -52,7 +52,7 @@ kept_from arch end span (Kept f) es one others h =
     let t = split_test end span.start span.size (are_apart (span.start + span.size) es) (are_apart end es) h some in
     let rest = others (span.start + span.size) t.1 in
     (rw one.1 t.0, rw (one.1, one.2) rest)
-kept_from arch end span (Left omission) es one others h =
+kept_from arch end span (LeftOut omission) es one others h =
     elim (cases_lt 0 span.size) [
       | inl some ↦
           let t = split_test end span.start span.size (are_apart (span.start + span.size) es) (are_apart end es) h some in
@@ -107,22 +107,22 @@ neighbours end (f ∷ []) k d h lt = absurd (omega arith)
 neighbours end (f ∷ g ∷ fs) zero d h lt = h.1.0
 neighbours end (f ∷ g ∷ fs) (suc k) d h lt = neighbours (f.start + f.size) (g ∷ fs) k d h.1 (omega arith)
 
-kept_one : (arch : Arch) (span : Span) (outcome : Outcome) (es : List Entry) → IsSoundOutcome arch span.start span.size outcome → AllByRecursion (IsWritable arch) (kept_of es)
+kept_one : (arch : Arch) (span : Span) (outcome : Expressed) (es : List Entry) → IsSoundOutcome arch span.start span.size outcome → AllByRecursion (IsWritable arch) (kept_of es)
     → AllByRecursion (IsWritable arch) (kept_of (record { span = span; outcome = outcome } ∷ es))
 kept_one arch span (Kept f) es one others = (one.0, others)
-kept_one arch span (Left omission) es one others = others
+kept_one arch span (LeftOut omission) es one others = others
 
 kept_writable : (arch : Arch) (es : List Entry) → AllByRecursion (IsSound arch) es → AllByRecursion (IsWritable arch) (kept_of es)
 kept_writable arch [] sound = tt
 kept_writable arch (e ∷ es) sound = kept_one arch e.span e.outcome es sound.0 (kept_writable arch es sound.1)
 
 -- no more functions and rows than before
-count_one : (span : Span) (outcome : Outcome) (es : List Entry)
+count_one : (span : Span) (outcome : Expressed) (es : List Entry)
     → length (kept_of es) ≤ length es → sum_by (λ (f : Func). length f.rows) (kept_of es) ≤ sum_by entry_rows es
     → (length (kept_of (record { span = span; outcome = outcome } ∷ es)) ≤ suc (length es))
     × (sum_by (λ (f : Func). length f.rows) (kept_of (record { span = span; outcome = outcome } ∷ es)) ≤ rows_of outcome + sum_by entry_rows es)
 count_one span (Kept f) es few small = (omega arith, rw sum_by-cons (omega arith))
-count_one span (Left omission) es few small = (omega arith, omega arith)
+count_one span (LeftOut omission) es few small = (omega arith, omega arith)
 
 kept_count : (es : List Entry) → (length (kept_of es) ≤ length es) × (sum_by (λ (f : Func). length f.rows) (kept_of es) ≤ sum_by entry_rows es)
 kept_count [] = (omega arith, omega arith)
@@ -212,7 +212,7 @@ pub kept_of-kept : (es : List Entry) (e : Entry) (f : Func) → e.outcome ≡ Ke
 kept_of-kept es e f h =
     filter_map-append (λ (x : Entry). kept_in x.outcome) es (e ∷ []) ∙ ap (λ (xs : List Func). kept_of es ++ xs) (rw h refl)
 
-pub kept_of-left : (es : List Entry) (e : Entry) (o : Omission) → e.outcome ≡ Left o → kept_of (es ++ e ∷ []) ≡ kept_of es
+pub kept_of-left : (es : List Entry) (e : Entry) (o : Omission) → e.outcome ≡ LeftOut o → kept_of (es ++ e ∷ []) ≡ kept_of es
 kept_of-left es e o h =
     filter_map-append (λ (x : Entry). kept_in x.outcome) es (e ∷ []) ∙ ap (λ (xs : List Func). kept_of es ++ xs) (rw h refl) ∙ append-nil (kept_of es)
 
@@ -220,7 +220,7 @@ pub omitted_of-kept : (es : List Entry) (e : Entry) (f : Func) → e.outcome ≡
 omitted_of-kept es e f h =
     filter_map-append (λ (x : Entry). omitted_in x.span x.outcome) es (e ∷ []) ∙ ap (λ (xs : List Omitted). omitted_of es ++ xs) (rw h refl) ∙ append-nil (omitted_of es)
 
-pub omitted_of-left : (es : List Entry) (e : Entry) (o : Omission) → e.outcome ≡ Left o
+pub omitted_of-left : (es : List Entry) (e : Entry) (o : Omission) → e.outcome ≡ LeftOut o
     → omitted_of (es ++ e ∷ []) ≡ omitted_of es ++ record { start = e.span.start; size = e.span.size; origin = e.span.origin; omission = o } ∷ []
 omitted_of-left es e o h =
     filter_map-append (λ (x : Entry). omitted_in x.span x.outcome) es (e ∷ []) ∙ ap (λ (xs : List Omitted). omitted_of es ++ xs) (rw h refl)

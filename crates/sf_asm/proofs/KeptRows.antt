@@ -10,7 +10,7 @@ use Rattle.cfa_insn.specs.Listing.{listing}
 use Rattle.cfa_machine.specs.declared.columns.Columns.{Columns}
 use Rattle.cfa_machine.specs.Initial.{IsInitial}
 use Rattle.eh_records.specs.Cie.{CieView}
-use Rattle.sf_asm.specs.Initials.{IsInitialAt, IsInitialOf, row_source}
+use Rattle.sf_asm.specs.InitialRows.{IsInitialAt, IsInitialOf, row_source}
 
 -- each row of a map is that of the entry at its place
 abbrev pub AreAt : Arch → List ℕ → BTreeMap ℕ Columns → Type 0

@@ -1,7 +1,7 @@
 pub mod Kept
 pub mod Heads
 pub mod KeptRows
-pub mod Overlaps
+pub mod OverlapLaws
 pub mod ReadFunctions
 pub mod ReadSoFar
 pub mod ReadInputs

@@ -28,8 +28,8 @@ use Rattle.sf_express.specs.Runs.{AreSaid, function_of}
 use Rattle.sf_express.proofs.ByOffsets.{answer_means}
 use Rattle.sf_express.proofs.Omitted.{answer_omits}
 use Rattle.sf_express.proofs.Writable.{FunctionFits, function_by-fits, rows_of_kept}
-use Rattle.sf_asm.specs.declared.entry.Outcome.{Outcome}
-use Rattle.sf_asm.specs.declared.entry.Outcome.TheVariants as outcome
+use Rattle.sf_asm.specs.declared.entry.Expressed.{Expressed}
+use Rattle.sf_asm.specs.declared.entry.Expressed.TheVariants as outcome
 use Rattle.sf_asm.specs.declared.fault.AsmFault.{AsmFault}
 use Rattle.sf_asm.specs.declared.fault.AsmFault.TheVariants as asm
 use Rattle.sf_asm.specs.Entry.{IsSoundOutcome}
@@ -41,7 +41,7 @@ use Rattle.sf_asm.proofs.ReadFunctions.{are_said}
 abbrev pub rows_of : Function → Result (List DwRow) MachineFault
 rows_of f = rows_by f.arch f.code f.factor f.size f.initial f.own
 
-abbrev pub made_of : Function → Result (List DwRow) MachineFault → Result Outcome MachineFault
+abbrev pub made_of : Function → Result (List DwRow) MachineFault → Result Expressed MachineFault
 made_of f given = on_rows (λ rows. outcome_by (function_by f.arch (facts_of f) rows)) given
 
 -- ---- what becomes of it
@@ -49,21 +49,21 @@ meant : (f : Function) (rows : List DwRow) (x : Result Func Omission) → AreRow
 meant f rows (Ok g) h are e = answer_means f.arch (facts_of f) rows (Ok g) h e (answer_omits f.arch (facts_of f) rows (Ok g) h e) (says_of f) are
 meant f rows (Err omission) h are e = answer_means f.arch (facts_of f) rows (Err (Omit omission)) h e (answer_omits f.arch (facts_of f) rows (Err (Omit omission)) h e) (says_of f) are
 
-means_by : (f : Function) (given : Result (List DwRow) MachineFault) (outcome : Outcome) → AreRowsIfOk f.arch f.size given → SaysAllIfOk f.arch f.code f.factor f.size f.initial f.own given → made_of f given ≡ Ok outcome → outcome ≡ outcome_by (function_of f.arch (facts_of f) (says_of f))
+means_by : (f : Function) (given : Result (List DwRow) MachineFault) (outcome : Expressed) → AreRowsIfOk f.arch f.size given → SaysAllIfOk f.arch f.code f.factor f.size f.initial f.own given → made_of f given ≡ Ok outcome → outcome ≡ outcome_by (function_of f.arch (facts_of f) (says_of f))
 means_by f (Ok rows) outcome h say e =
     let is : outcome_by (function_by f.arch (facts_of f) rows) ≡ outcome = cc in
     sym is ∙ ap outcome_by (sym (meant f rows (function_by f.arch (facts_of f) rows) h (are_said f rows say) refl))
 means_by f (Err e') outcome h say e = absurd cc
 
-pub outcome_means : (f : Function) (outcome : Outcome) → f.size < 2 ^ 64 → made_of f (rows_of f) ≡ Ok outcome → outcome ≡ outcome_by (function_of f.arch (facts_of f) (says_of f))
+pub outcome_means : (f : Function) (outcome : Expressed) → f.size < 2 ^ 64 → made_of f (rows_of f) ≡ Ok outcome → outcome ≡ outcome_by (function_of f.arch (facts_of f) (says_of f))
 outcome_means f outcome small e = means_by f (rows_of f) outcome (rows_by-are_rows _ _ _ _ _ _) (rows_by-say _ _ _ _ _ _ small) e
 
 -- ---- faults
-runs_by : (f : Function) (given : Result (List DwRow) MachineFault) (outcome : Outcome) → made_of f given ≡ Ok outcome → fault_of given ≡ None
+runs_by : (f : Function) (given : Result (List DwRow) MachineFault) (outcome : Expressed) → made_of f given ≡ Ok outcome → fault_of given ≡ None
 runs_by f (Ok rows) outcome e = refl
 runs_by f (Err e') outcome e = absurd cc
 
-pub outcome_runs : (f : Function) (outcome : Outcome) (first : Option MachineFault) → fault_of (rows_of f) ≡ first → made_of f (rows_of f) ≡ Ok outcome → first ≡ None
+pub outcome_runs : (f : Function) (outcome : Expressed) (first : Option MachineFault) → fault_of (rows_of f) ≡ first → made_of f (rows_of f) ≡ Ok outcome → first ≡ None
 outcome_runs f outcome first is e = sym is ∙ runs_by f (rows_of f) outcome e
 
 refused_by : (section : ℕ) (fault : AsmFault) (given : Result (List DwRow) MachineFault) → named (asm.Machine section) given ≡ Err fault → named (asm.Machine section) (unless (fault_of given)) ≡ Err fault
@@ -88,7 +88,7 @@ kept_outcome arch facts (Ok rows) func other made same =
     ap (λ (x : Result Func Omission). Ok (outcome_by x)) given ∙ ap (λ (f : Func). Ok (outcome.Kept f)) (sym same)
 kept_outcome arch facts (Err e) func other made same = absurd cc
 
-pub left_outcome : (arch : Arch) (facts : FdeFacts) (left : Result (List DwRow) MachineFault) (omission : Omission) → on_rows (function_by arch facts) left ≡ Ok (Err omission) → on_rows (λ rows. outcome_by (function_by arch facts rows)) left ≡ Ok (outcome.Left omission)
+pub left_outcome : (arch : Arch) (facts : FdeFacts) (left : Result (List DwRow) MachineFault) (omission : Omission) → on_rows (function_by arch facts) left ≡ Ok (Err omission) → on_rows (λ rows. outcome_by (function_by arch facts rows)) left ≡ Ok (outcome.LeftOut omission)
 left_outcome arch facts (Ok rows) omission made =
     let given : function_by arch facts rows ≡ Err omission = cc in
     ap (λ (x : Result Func Omission). Ok (outcome_by x)) given
@@ -123,18 +123,18 @@ sound_one arch facts rows (Ok g) e fits end key =
     (fits end' key', same.start, same.size)
 sound_one arch facts rows (Err omission) e fits end key = tt
 
-sound_by : (f : Function) (given : Result (List DwRow) MachineFault) (outcome : Outcome) → AreRowsIfOk f.arch f.size given → f.start + f.size ≤ 2 ^ 64 → IsTrue (key_fits f.arch f.key) → made_of f given ≡ Ok outcome → IsSoundOutcome f.arch f.start f.size outcome
+sound_by : (f : Function) (given : Result (List DwRow) MachineFault) (outcome : Expressed) → AreRowsIfOk f.arch f.size given → f.start + f.size ≤ 2 ^ 64 → IsTrue (key_fits f.arch f.key) → made_of f given ≡ Ok outcome → IsSoundOutcome f.arch f.start f.size outcome
 sound_by f (Ok rows) outcome h end key e =
     let is : outcome_by (function_by f.arch (facts_of f) rows) ≡ outcome = cc in
     let fits : FunctionFits f.arch (function_by f.arch (facts_of f) rows) = function_by-fits f.arch (facts_of f) rows h in
     subst (IsSoundOutcome f.arch f.start f.size) is (sound_one f.arch (facts_of f) rows (function_by f.arch (facts_of f) rows) refl fits end key)
 sound_by f (Err x) outcome h end key e = absurd cc
 
-pub outcome_is_sound : (f : Function) (outcome : Outcome) → f.start + f.size ≤ 2 ^ 64 → IsTrue (key_fits f.arch f.key) → made_of f (rows_of f) ≡ Ok outcome → IsSoundOutcome f.arch f.start f.size outcome
+pub outcome_is_sound : (f : Function) (outcome : Expressed) → f.start + f.size ≤ 2 ^ 64 → IsTrue (key_fits f.arch f.key) → made_of f (rows_of f) ≡ Ok outcome → IsSoundOutcome f.arch f.start f.size outcome
 outcome_is_sound f outcome end key e = sound_by f (rows_of f) outcome (rows_by-are_rows _ _ _ _ _ _) end key e
 
 -- what was made of the rows that were left is made of those of the function
-pub made_here : (f : Function) (facts : FdeFacts) (left : Result (List DwRow) MachineFault) (outcome : Outcome) → facts ≡ facts_of f → left ≡ rows_of f → on_rows (λ rows. outcome_by (function_by f.arch facts rows)) left ≡ Ok outcome → made_of f (rows_of f) ≡ Ok outcome
+pub made_here : (f : Function) (facts : FdeFacts) (left : Result (List DwRow) MachineFault) (outcome : Expressed) → facts ≡ facts_of f → left ≡ rows_of f → on_rows (λ rows. outcome_by (function_by f.arch facts rows)) left ≡ Ok outcome → made_of f (rows_of f) ≡ Ok outcome
 made_here f facts left outcome same is e =
     subst (λ (x : Result (List DwRow) MachineFault). made_of f x ≡ Ok outcome) is
     (subst (λ (x : FdeFacts). on_rows (λ rows. outcome_by (function_by f.arch x rows)) left ≡ Ok outcome) same e)

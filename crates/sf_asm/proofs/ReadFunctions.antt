@@ -15,7 +15,7 @@ use Rattle.elf_reloc.specs.declared.fix.RelocatedField.{RelocatedField}
 use Rattle.sf_express.specs.Rules.{content_of}
 use Rattle.sf_express.specs.Offsets.{said}
 use Rattle.sf_express.specs.Runs.{AreSaid, function_of}
-use Rattle.sf_asm.specs.declared.entry.Outcome.{Outcome}
+use Rattle.sf_asm.specs.declared.entry.Expressed.{Expressed}
 use Rattle.sf_asm.specs.declared.fault.AsmFault.{AsmFault}
 use Rattle.sf_asm.specs.declared.fault.AsmFault.TheVariants as asm
 use Rattle.sf_asm.specs.declared.read.ReadFunctions.{ReadFunctions}
@@ -37,14 +37,14 @@ are_said f rows h = λ o lt.
     let there = h o lt in
     ap (said f.arch) there.is ∙ ap Some (content_anywhere f.arch there.start o (columns_of f.arch (full_row f o)))
 
-pub reads_function : (arch : Arch) (item : ℕ) (section : CallFrames) (values : Values) (f : FdeView) (span : ℕ × ℕ) (outcome : Outcome) → Ok span ≡ named (asm.Record section.number) (span_in section values f) → fault_in arch f ≡ None
+pub reads_function : (arch : Arch) (item : ℕ) (section : CallFrames) (values : Values) (f : FdeView) (span : ℕ × ℕ) (outcome : Expressed) → Ok span ≡ named (asm.Record section.number) (span_in section values f) → fault_in arch f ≡ None
     → outcome ≡ outcome_by (function_of arch (facts_of (function_at arch item section f span)) (says_of (function_at arch item section f span)))
     → seen_as entry_of (function_in arch item section values f) ≡ Ok (record { span = record { start = span.0; size = span.1; origin = record { item = item; section = section.number; place = f.place } }; outcome = outcome })
 unfolding function_in
 reads_function arch item section values f span outcome p q r =
     ap (λ (s : Result (ℕ × ℕ) AsmFault). seen_as entry_of (s >>= λ span. (named (asm.Machine section.number) (unless (fault_in arch f)) >>= λ _. Ok (function_at arch item section f span)))) (sym p)
     ∙ ap (λ (x : Option _). seen_as entry_of (named (asm.Machine section.number) (unless x) >>= λ _. Ok (function_at arch item section f span))) q
-    ∙ ap (λ (o : Outcome). Ok (record { span = record { start = span.0; size = span.1; origin = record { item = item; section = section.number; place = f.place } }; outcome = o })) (sym r)
+    ∙ ap (λ (o : Expressed). Ok (record { span = record { start = span.0; size = span.1; origin = record { item = item; section = section.number; place = f.place } }; outcome = o })) (sym r)
 
 pub reads_source : (arch : Arch) (item : ℕ) (section : CallFrames) (values : Values) (f : FdeView) (span : ℕ × ℕ) → Ok span ≡ named (asm.Record section.number) (span_in section values f) → fault_in arch f ≡ None
     → function_in arch item section values f ≡ Ok (function_at arch item section f span)

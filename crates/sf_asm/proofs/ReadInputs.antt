@@ -7,14 +7,14 @@ use Rattle.sf_asm.specs.declared.fault.AsmFault.{AsmFault}
 use Rattle.sf_asm.specs.declared.fault.AsmFault.TheVariants as asm
 use Rattle.sf_asm.specs.declared.fault.GatherFault.{GatherFault}
 use Rattle.sf_asm.specs.declared.fault.GatherFault.TheVariants as gather
-use Rattle.elf_groups.specs.declared.groups.Seen.{Seen}
+use Rattle.elf_groups.specs.declared.groups.SeenSignatures.{SeenSignatures}
 use Rattle.sf_asm.specs.declared.input.Input.{Input}
 use Rattle.sf_asm.specs.declared.read.ReadFunctions.{ReadFunctions}
 use Rattle.sf_asm.specs.Answers.{after_read}
 use Rattle.sf_asm.specs.Fault.{wraps_input}
 use Rattle.sf_asm.specs.Functions.{◌>>=◌, Function, Object, functions_after, functions_of, machine_of, named, object_functions, object_of, seen_behind}
 use Rattle.sf_asm.specs.ReadSoFar.{AreReadSoFar, ReadsAll}
-use Rattle.elf_groups.specs.Seen.{HasSeen}
+use Rattle.elf_groups.specs.SeenSignatures.{HasSeen}
 use Rattle.sf_asm.proofs.ReadSoFar.{after_both, after_none, then_others}
 
 -- ---- the fault of one input
@@ -34,14 +34,14 @@ input_wrapped item given (asm.Machine section fault) h = wrapped item given (asm
 
 -- ---- inputs
 -- what is left, after the functions that were read, comes to what all inputs come to
-pub record AreReadUpTo (lending : Bool) (set : Seen) (read : ReadFunctions) (item : ℕ) (left : List Object) (given : Result (List Function) GatherFault) : Type 0 where
+pub record AreReadUpTo (lending : Bool) (set : SeenSignatures) (read : ReadFunctions) (item : ℕ) (left : List Object) (given : Result (List Function) GatherFault) : Type 0 where
   pub seen : List (List ℕ)
   pub has : HasSeen set seen
   pub functions : List Function
   pub are : AreReadSoFar lending read functions
   pub comes : after_read functions (functions_after seen item left) ≡ given
 
-pub starts : (lending : Bool) (set : Seen) (read : ReadFunctions) (item : ℕ) (objects : List Object) → HasSeen set [] → AreReadSoFar lending read [] → AreReadUpTo lending set read item objects (functions_of item objects)
+pub starts : (lending : Bool) (set : SeenSignatures) (read : ReadFunctions) (item : ℕ) (objects : List Object) → HasSeen set [] → AreReadSoFar lending read [] → AreReadUpTo lending set read item objects (functions_of item objects)
 starts lending set read item objects h none = record { seen = []; has = h; functions = []; are = none; comes = after_none (functions_of item objects) }
 
 pub functions_after-cons : (seen : List (List ℕ)) (item : ℕ) (object : Object) (left : List Object)
@@ -53,7 +53,7 @@ pub functions_after-nil : (seen : List (List ℕ)) (item : ℕ) → functions_af
 unfolding functions_after
 functions_after-nil seen item = refl
 
-pub goes_on : (lending : Bool) (set set' : Seen) (read read' : ReadFunctions) (item : ℕ) (object : Object) (left : List Object) (given : Result (List Function) GatherFault) → AreReadUpTo lending set read item (object ∷ left) given
+pub goes_on : (lending : Bool) (set set' : SeenSignatures) (read read' : ReadFunctions) (item : ℕ) (object : Object) (left : List Object) (given : Result (List Function) GatherFault) → AreReadUpTo lending set read item (object ∷ left) given
     → ((signatures : List (List ℕ)) → HasSeen set signatures → ReadsAll lending read read' (object_functions item signatures object))
     → ((signatures : List (List ℕ)) → HasSeen set signatures → HasSeen set' (seen_behind signatures object)) → AreReadUpTo lending set' read' (item + 1) left given
 goes_on lending set set' read read' item object left given h reads sees =
@@ -73,7 +73,7 @@ first_fault : (item : ℕ) (one : Result (List Function) AsmFault) (left : Resul
     → (named (gather.Input item) one >>= λ fs. left >>= λ gs. Ok (fs ++ gs)) ≡ Err fault
 first_fault item one left fault e = ap (λ (r : Result (List Function) GatherFault). r >>= λ fs. left >>= λ gs. Ok (fs ++ gs)) e
 
-pub stops : (lending : Bool) (set : Seen) (read : ReadFunctions) (item : ℕ) (object : Object) (left : List Object) (given : Result (List Function) GatherFault) (fault : GatherFault) → AreReadUpTo lending set read item (object ∷ left) given
+pub stops : (lending : Bool) (set : SeenSignatures) (read : ReadFunctions) (item : ℕ) (object : Object) (left : List Object) (given : Result (List Function) GatherFault) (fault : GatherFault) → AreReadUpTo lending set read item (object ∷ left) given
     → ((signatures : List (List ℕ)) → HasSeen set signatures → (fault ≡ gather.NoMemory) ⊎ (named (gather.Input item) (object_functions item signatures object) ≡ Err fault)) → (fault ≡ gather.NoMemory) ⊎ (given ≡ Err fault)
 stops lending set read item object left given fault h refused =
     elim (refused h.seen h.has) [
@@ -83,7 +83,7 @@ stops lending set read item object left given fault h refused =
           ∙ ap (after_read h.functions) (functions_after-cons h.seen item object left ∙ first_fault item (object_functions item h.seen object) (functions_after (seen_behind h.seen object) (item + 1) left) fault e))
     ]
 
-pub ends : (lending : Bool) (set : Seen) (read : ReadFunctions) (item : ℕ) (given : Result (List Function) GatherFault) → AreReadUpTo lending set read item [] given → (functions : List Function) × (given ≡ Ok functions) × AreReadSoFar lending read functions
+pub ends : (lending : Bool) (set : SeenSignatures) (read : ReadFunctions) (item : ℕ) (given : Result (List Function) GatherFault) → AreReadUpTo lending set read item [] given → (functions : List Function) × (given ≡ Ok functions) × AreReadSoFar lending read functions
 ends lending set read item given h = (h.functions, sym h.comes ∙ ap (after_read h.functions) (functions_after-nil h.seen item) ∙ ap Ok (append-nil h.functions), h.are)
 
 -- ---- the inputs from a place on
@@ -92,7 +92,7 @@ left_is inputs k input lt is =
     ap (map object_of) (drop-cons inputs k input lt) ∙ ap (λ (n : ℕ). object_of (get_or inputs k input) ∷ map object_of (drop n inputs)) (sym (add-one k))
     ∙ ap (λ (i : Input). object_of i ∷ map object_of (drop (k + 1) inputs)) (sym is)
 
-pub goes_on_at : (lending : Bool) (set set' : Seen) (read read' : ReadFunctions) (first k : ℕ) (inputs : List Input) (input : Input) (given : Result (List Function) GatherFault) → k < length inputs → input ≡ get_or inputs k input
+pub goes_on_at : (lending : Bool) (set set' : SeenSignatures) (read read' : ReadFunctions) (first k : ℕ) (inputs : List Input) (input : Input) (given : Result (List Function) GatherFault) → k < length inputs → input ≡ get_or inputs k input
     → AreReadUpTo lending set read (first + k) (map object_of (drop k inputs)) given
     → ((signatures : List (List ℕ)) → HasSeen set signatures → ReadsAll lending read read' (object_functions (first + k) signatures (object_of input)))
     → ((signatures : List (List ℕ)) → HasSeen set signatures → HasSeen set' (seen_behind signatures (object_of input))) → AreReadUpTo lending set' read' (first + (k + 1)) (map object_of (drop (k + 1) inputs)) given
@@ -101,7 +101,7 @@ goes_on_at lending set set' read read' first k inputs input given lt is h reads 
     (goes_on lending set set' read read' (first + k) (object_of input) (map object_of (drop (k + 1) inputs)) given
     (subst (λ (left : List Object). AreReadUpTo lending set read (first + k) left given) (left_is inputs k input lt is) h) reads sees)
 
-pub stops_at : (lending : Bool) (set : Seen) (read : ReadFunctions) (first k : ℕ) (inputs : List Input) (input : Input) (given : Result (List Function) GatherFault) (fault : GatherFault) → k < length inputs → input ≡ get_or inputs k input
+pub stops_at : (lending : Bool) (set : SeenSignatures) (read : ReadFunctions) (first k : ℕ) (inputs : List Input) (input : Input) (given : Result (List Function) GatherFault) (fault : GatherFault) → k < length inputs → input ≡ get_or inputs k input
     → AreReadUpTo lending set read (first + k) (map object_of (drop k inputs)) given
     → ((signatures : List (List ℕ)) → HasSeen set signatures → (fault ≡ gather.NoMemory) ⊎ (named (gather.Input (first + k)) (object_functions (first + k) signatures (object_of input)) ≡ Err fault))
     → (fault ≡ gather.NoMemory) ⊎ (given ≡ Err fault)
@@ -109,7 +109,7 @@ stops_at lending set read first k inputs input given fault lt is h refused =
     stops lending set read (first + k) (object_of input) (map object_of (drop (k + 1) inputs)) given fault
     (subst (λ (left : List Object). AreReadUpTo lending set read (first + k) left given) (left_is inputs k input lt is) h) refused
 
-pub ends_at : (lending : Bool) (set : Seen) (read : ReadFunctions) (item k : ℕ) (inputs : List Input) (given : Result (List Function) GatherFault) → length inputs ≤ k → AreReadUpTo lending set read item (map object_of (drop k inputs)) given
+pub ends_at : (lending : Bool) (set : SeenSignatures) (read : ReadFunctions) (item k : ℕ) (inputs : List Input) (given : Result (List Function) GatherFault) → length inputs ≤ k → AreReadUpTo lending set read item (map object_of (drop k inputs)) given
     → (functions : List Function) × (given ≡ Ok functions) × AreReadSoFar lending read functions
 ends_at lending set read item k inputs given le h =
     ends lending set read item given (subst (λ (left : List Object). AreReadUpTo lending set read item left given) (ap (map object_of) (drop_all k inputs le)) h)

@@ -21,9 +21,9 @@ use Rattle.sf_asm.specs.Faithful.{holds_address}
 use Rattle.sf_asm.specs.Functions.{Function, Object}
 use Rattle.sf_asm.specs.Kept.{entry_of, is_kept, kept_functions, omitted_functions}
 use Rattle.sf_asm.specs.Order.{are_apart}
-use Rattle.sf_asm.specs.Said.{IsSaidUpTo, RowAt, SaidTo, SaysUpTo, dwarf_at, form_content, said_in, with_key}
+use Rattle.sf_asm.specs.ContentAt.{IsSaidUpTo, RowAt, SaidTo, SaysUpTo, dwarf_at, form_content, said_in, with_key}
 use Rattle.sf_asm.specs.Sources.{AreWithSources}
-use Rattle.sf_asm.specs.declared.said.Said.{Said}
+use Rattle.sf_asm.specs.declared.keyed_content.KeyedContent.{KeyedContent}
 use Rattle.sf_asm.proofs.Agreeing.{expressed_of, find_kept, found_passes}
 use Rattle.sf_asm.proofs.Described.{described}
 use Rattle.sf_model.proofs.Unions.{Member, found, found_alone, from_filter, in_filter, some_found}
@@ -76,7 +76,7 @@ form_is f pieces o content said lt e = let is : Some (form_content f o) ≡ Some
 
 some_content : (key : Key) (found : Option Content) (content : Content) → option_map (with_key key) found ≡ Some (with_key key content) → found ≡ Some content
 some_content key None content e = cc
-some_content key (Some c) content e = let is : with_key key c ≡ with_key key content = cc in ap (λ (s : Said). Some s.content) is
+some_content key (Some c) content e = let is : with_key key c ≡ with_key key content = cc in ap (λ (s : KeyedContent). Some s.content) is
 
 says_up_to : (f : Function) (pieces : List Piece) (pc last : ℕ) (content : Content) → AreSaidBy f.size (form_content f) pieces → IsPiece f pieces pc last (Some content) → IsSaidUpTo (λ p. said_in p f) f pc (with_key f.key content) (f.start + last)
 says_up_to f pieces pc last content said h =

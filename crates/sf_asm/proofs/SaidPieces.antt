@@ -22,7 +22,7 @@ use Rattle.sf_asm.specs.Functions.{Function}
 use Rattle.sf_asm.specs.Kept.{says_of}
 use Rattle.sf_asm.proofs.MadeRows.{rows_of}
 use Rattle.sf_asm.proofs.ReadFunctions.{are_said}
-use Rattle.sf_asm.specs.Said.{AllFit, IfFits}
+use Rattle.sf_asm.specs.ContentAt.{AllFit, IfFits}
 
 -- ---- contents fit
 content_fits_if : (arch : Arch) (x : Result Content Reason) → ContentFits arch x → IfFits arch (content_in x)

@@ -10,7 +10,7 @@ use Rattle.sf_model.specs.declared.function.Shape.TheVariants.{Plain}
 use Rattle.sf_model.specs.declared.omission.Reason.TheVariants.{RaRule, CfaRegister}
 use Rattle.eh_records.specs.declared.fault.RecordFault.TheVariants as record_faults
 use Rattle.sf_asm.specs.declared.entry.Entry.{Entry}
-use Rattle.sf_asm.specs.declared.entry.Outcome.TheVariants as outcome
+use Rattle.sf_asm.specs.declared.entry.Expressed.TheVariants as outcome
 use Rattle.sf_asm.specs.declared.fault.AsmFault.{AsmFault}
 use Rattle.sf_asm.specs.declared.fault.AsmFault.TheVariants as asm
 use Rattle.sf_asm.specs.declared.fault.GatherFault.{GatherFault}
@@ -72,7 +72,7 @@ abbrev an_undefined_return_address_bytes : List ℕ
 an_undefined_return_address_bytes =
     0x14 ∷ 0x00 ∷ 0x00 ∷ 0x00 ∷ 0x00 ∷ 0x00 ∷ 0x00 ∷ 0x00 ∷ 0x01 ∷ 0x7a ∷ 0x52 ∷ 0x00 ∷ 0x01 ∷ 0x78 ∷ 0x10 ∷ 0x01 ∷ 0x1b ∷ 0x0c ∷ 0x07 ∷ 0x08 ∷ 0x90 ∷ 0x01 ∷ 0x00 ∷ 0x00 ∷ 0x10 ∷ 0x00 ∷ 0x00 ∷ 0x00 ∷ 0x1c ∷ 0x00 ∷ 0x00 ∷ 0x00 ∷ 0xe0 ∷ 0xef ∷ 0xff ∷ 0xff ∷ 0x06 ∷ 0x00 ∷ 0x00 ∷ 0x00 ∷ 0x00 ∷ 0x07 ∷ 0x10 ∷ 0x00 ∷ 0x00 ∷ 0x00 ∷ 0x00 ∷ 0x00 ∷ []
 
-an_undefined_return_address : becomes Amd64 an_undefined_return_address_bytes ≡ Ok (record { span = record { start = 4096; size = 6; origin = record { item = 0; section = 0; place = 24 } }; outcome = outcome.Left (record { reason = RaRule; offset = Some 0 }) } ∷ [])
+an_undefined_return_address : becomes Amd64 an_undefined_return_address_bytes ≡ Ok (record { span = record { start = 4096; size = 6; origin = record { item = 0; section = 0; place = 24 } }; outcome = outcome.LeftOut (record { reason = RaRule; offset = Some 0 }) } ∷ [])
 unfolding number_at part_at signed_at is_negative leb_signed leb_sum run_length sleb_at uleb_at text_at pointer_bits pointer_value pointer_width usable_width are_letters data_at form_at letter_at letters_at personality_at augmentation_by cie_of version_at return_address_register_at augmentation_at named_place raw_record_at record_of_length cie_at_place fde_entry_of fde_of lsda_at records_after entries_in entries_of entry_at entry_here entry_cie_place number_field part_field pointer_field sleb_field text_field uleb_field listing_after block_at extended_at instruction_at operands_at state_before initial_by effect_by function_fault initial_fault content_of function_of omission_of rows_of function_in functions_after section_functions first_at patched slot_check
 an_undefined_return_address = refl
 
@@ -90,7 +90,7 @@ abbrev a_late_reason_bytes : List ℕ
 a_late_reason_bytes =
     0x14 ∷ 0x00 ∷ 0x00 ∷ 0x00 ∷ 0x00 ∷ 0x00 ∷ 0x00 ∷ 0x00 ∷ 0x01 ∷ 0x7a ∷ 0x52 ∷ 0x00 ∷ 0x01 ∷ 0x78 ∷ 0x10 ∷ 0x01 ∷ 0x1b ∷ 0x0c ∷ 0x07 ∷ 0x08 ∷ 0x90 ∷ 0x01 ∷ 0x00 ∷ 0x00 ∷ 0x18 ∷ 0x00 ∷ 0x00 ∷ 0x00 ∷ 0x1c ∷ 0x00 ∷ 0x00 ∷ 0x00 ∷ 0xe0 ∷ 0xef ∷ 0xff ∷ 0xff ∷ 0x1b ∷ 0x00 ∷ 0x00 ∷ 0x00 ∷ 0x00 ∷ 0x41 ∷ 0x0e ∷ 0x10 ∷ 0x86 ∷ 0x02 ∷ 0x48 ∷ 0x0c ∷ 0x0a ∷ 0x00 ∷ 0x00 ∷ 0x00 ∷ 0x00 ∷ 0x00 ∷ 0x00 ∷ 0x00 ∷ []
 
-a_late_reason : becomes Amd64 a_late_reason_bytes ≡ Ok (record { span = record { start = 4096; size = 27; origin = record { item = 0; section = 0; place = 24 } }; outcome = outcome.Left (record { reason = CfaRegister; offset = Some 9 }) } ∷ [])
+a_late_reason : becomes Amd64 a_late_reason_bytes ≡ Ok (record { span = record { start = 4096; size = 27; origin = record { item = 0; section = 0; place = 24 } }; outcome = outcome.LeftOut (record { reason = CfaRegister; offset = Some 9 }) } ∷ [])
 unfolding number_at part_at signed_at is_negative leb_signed leb_sum run_length sleb_at uleb_at text_at pointer_bits pointer_value pointer_width usable_width are_letters data_at form_at letter_at letters_at personality_at augmentation_by cie_of version_at return_address_register_at augmentation_at named_place raw_record_at record_of_length cie_at_place fde_entry_of fde_of lsda_at records_after entries_in entries_of entry_at entry_here entry_cie_place number_field part_field pointer_field sleb_field text_field uleb_field listing_after block_at extended_at instruction_at operands_at state_before initial_by effect_by function_fault initial_fault content_of function_of omission_of rows_of function_in functions_after section_functions first_at patched slot_check
 a_late_reason = refl
 
@@ -146,11 +146,11 @@ becomes_with value dropped = seen_as (map entry_of) (section_functions Amd64 0 (
 }))
 
 -- the start is counted from the field's own address, 0x2020
-a_start_that_is_relocated : becomes_with (Some 0x2fe0) false ≡ Ok (record { span = record { start = 0x5000; size = 6; origin = record { item = 0; section = 3; place = 24 } }; outcome = outcome.Left (record { reason = RaRule; offset = Some 0 }) } ∷ [])
+a_start_that_is_relocated : becomes_with (Some 0x2fe0) false ≡ Ok (record { span = record { start = 0x5000; size = 6; origin = record { item = 0; section = 3; place = 24 } }; outcome = outcome.LeftOut (record { reason = RaRule; offset = Some 0 }) } ∷ [])
 unfolding number_at part_at signed_at is_negative leb_signed leb_sum run_length sleb_at uleb_at text_at pointer_bits pointer_value pointer_width usable_width are_letters data_at form_at letter_at letters_at personality_at augmentation_by cie_of version_at return_address_register_at augmentation_at named_place raw_record_at record_of_length cie_at_place fde_entry_of fde_of lsda_at records_after entries_in entries_of entry_at entry_here entry_cie_place number_field part_field pointer_field sleb_field text_field uleb_field listing_after block_at extended_at instruction_at operands_at state_before initial_by effect_by function_fault initial_fault content_of function_of omission_of rows_of function_in section_functions first_at low_bits overwritten patched slot_check
 a_start_that_is_relocated = refl
 
-a_start_that_is_below_its_field : becomes_with (Some 0xfffffffffffffff0) false ≡ Ok (record { span = record { start = 0x2010; size = 6; origin = record { item = 0; section = 3; place = 24 } }; outcome = outcome.Left (record { reason = RaRule; offset = Some 0 }) } ∷ [])
+a_start_that_is_below_its_field : becomes_with (Some 0xfffffffffffffff0) false ≡ Ok (record { span = record { start = 0x2010; size = 6; origin = record { item = 0; section = 3; place = 24 } }; outcome = outcome.LeftOut (record { reason = RaRule; offset = Some 0 }) } ∷ [])
 unfolding number_at part_at signed_at is_negative leb_signed leb_sum run_length sleb_at uleb_at text_at pointer_bits pointer_value pointer_width usable_width are_letters data_at form_at letter_at letters_at personality_at augmentation_by cie_of version_at return_address_register_at augmentation_at named_place raw_record_at record_of_length cie_at_place fde_entry_of fde_of lsda_at records_after entries_in entries_of entry_at entry_here entry_cie_place number_field part_field pointer_field sleb_field text_field uleb_field listing_after block_at extended_at instruction_at operands_at state_before initial_by effect_by function_fault initial_fault content_of function_of omission_of rows_of function_in section_functions first_at low_bits overwritten patched slot_check
 a_start_that_is_below_its_field = refl
 

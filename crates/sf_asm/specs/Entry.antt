@@ -6,19 +6,19 @@ use Rattle.sf_model.specs.declared.function.Func.{Func}
 use Rattle.sf_model.specs.declared.omission.Omitted.{Omitted}
 use Rattle.sf_model.specs.declared.omission.Span.{Span}
 use Rattle.sf_model.specs.Function.{IsWritable}
-use Rattle.sf_asm.specs.declared.entry.Outcome.{Outcome}
-use Rattle.sf_asm.specs.declared.entry.Outcome.TheVariants.{Kept, Left}
+use Rattle.sf_asm.specs.declared.entry.Expressed.{Expressed}
+use Rattle.sf_asm.specs.declared.entry.Expressed.TheVariants.{Kept, LeftOut}
 use Rattle.sf_asm.specs.declared.entry.Entry.{Entry}
 
 -- the function, if it is kept
-abbrev pub kept_in : Outcome → Option Func
+abbrev pub kept_in : Expressed → Option Func
 kept_in (Kept f) = Some f
-kept_in (Left omission) = None
+kept_in (LeftOut omission) = None
 
 -- the function, if it is omitted
-abbrev pub omitted_in : Span → Outcome → Option Omitted
+abbrev pub omitted_in : Span → Expressed → Option Omitted
 omitted_in span (Kept f) = None
-omitted_in span (Left omission) = Some record { start = span.start; size = span.size; origin = span.origin; omission = omission }
+omitted_in span (LeftOut omission) = Some record { start = span.start; size = span.size; origin = span.origin; omission = omission }
 
 -- the kept functions, in order
 abbrev pub kept_of : List Entry → List Func
@@ -43,9 +43,9 @@ kept_by_item first count entries = map (λ (item : ℕ). kept_of (of_item item e
 
 -- ---- Inside the crate
 -- a kept function is one that a section can hold, and has this start and size
-abbrev pub IsSoundOutcome : Arch → (start size : ℕ) → Outcome → Type 0
+abbrev pub IsSoundOutcome : Arch → (start size : ℕ) → Expressed → Type 0
 IsSoundOutcome arch start size (Kept f) = IsWritable arch f × (f.start ≡ start) × (f.size ≡ size)
-IsSoundOutcome arch start size (Left omission) = Unit {0}
+IsSoundOutcome arch start size (LeftOut omission) = Unit {0}
 
 -- the same for a function with its addresses
 abbrev pub IsSound : Arch → Entry → Type 0

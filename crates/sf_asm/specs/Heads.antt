@@ -9,20 +9,20 @@ use Rattle.sf_write.specs.declared.stored.StoredRows.{StoredRows}
 use Rattle.sf_write.specs.Stored.{IsStored, stored_in}
 use Rattle.sf_asm.specs.declared.entries.Place.{Place}
 use Rattle.sf_asm.specs.declared.entry.Entry.{Entry}
-use Rattle.sf_asm.specs.declared.entry.Outcome.{Outcome}
-use Rattle.sf_asm.specs.declared.entry.Outcome.TheVariants as outcome
+use Rattle.sf_asm.specs.declared.entry.Expressed.{Expressed}
+use Rattle.sf_asm.specs.declared.entry.Expressed.TheVariants as outcome
 use Rattle.sf_asm.specs.declared.entry.Head.{Head}
-use Rattle.sf_asm.specs.declared.entry.Head.TheVariants.{Kept, Left}
+use Rattle.sf_asm.specs.declared.entry.Head.TheVariants.{Kept, LeftOut}
 
 -- Inside the crate: its addresses and origin
 abbrev pub head_span : Head → Span
 head_span (Kept f origin) = record { start = f.head.start; size = f.head.size; origin = origin }
-head_span (Left o) = record { start = o.start; size = o.size; origin = o.origin }
+head_span (LeftOut o) = record { start = o.start; size = o.size; origin = o.origin }
 
 -- Inside the crate: what became of it
-abbrev pub outcome_in : StoredRows → Head → Outcome
+abbrev pub outcome_in : StoredRows → Head → Expressed
 outcome_in rows (Kept f origin) = outcome.Kept (stored_in rows f)
-outcome_in rows (Left o) = outcome.Left o.omission
+outcome_in rows (LeftOut o) = outcome.LeftOut o.omission
 
 -- Inside the crate: the function of a head, with its rows
 abbrev pub entry_in : StoredRows → Head → Entry
@@ -35,7 +35,7 @@ entries_in rows heads = map (entry_in rows) heads
 -- Inside the crate: the rows of a kept function are in the list
 abbrev pub HasRows : StoredRows → Head → Type 0
 HasRows rows (Kept f origin) = IsStored rows f
-HasRows rows (Left o) = Unit {0}
+HasRows rows (LeftOut o) = Unit {0}
 
 -- Inside the crate: the rows of all kept functions are in the list
 abbrev pub HaveRows : StoredRows → List Head → Type 0
@@ -44,7 +44,7 @@ HaveRows rows heads = All (HasRows rows) heads
 -- ---- places in a list of heads
 -- what is past the end of a list
 abbrev pub no_head : Head
-no_head = Left record { start = 0; size = 0; origin = record { item = 0; section = 0; place = 0 }; omission = record { reason = EmptyRange; offset = None } }
+no_head = LeftOut record { start = 0; size = 0; origin = record { item = 0; section = 0; place = 0 }; omission = record { reason = EmptyRange; offset = None } }
 
 -- the head at a place
 abbrev pub head_at : List Head → Place → Head
@@ -65,7 +65,7 @@ ArePlacesOf heads places = (heads_at heads places ≡ heads) × All (IsPlaceIn h
 -- the function of a head, if it is kept
 abbrev pub stored_at : Head → Option StoredFunction
 stored_at (Kept f origin) = Some f
-stored_at (Left o) = None
+stored_at (LeftOut o) = None
 
 -- the kept functions, in order
 abbrev pub stored_of : List Head → List StoredFunction
@@ -74,7 +74,7 @@ stored_of heads = filter_map stored_at heads
 -- whether it is the head of a kept function
 abbrev pub is_kept_head : Head → Bool
 is_kept_head (Kept f origin) = true
-is_kept_head (Left o) = false
+is_kept_head (LeftOut o) = false
 
 -- the head of a kept function is there
 abbrev pub IsKeptIn : List Head → Place → Type 0
@@ -83,7 +83,7 @@ IsKeptIn heads p = (p.index < length heads) × (is_kept_head (head_at heads p) �
 -- Inside the crate: the function of a head, if it is omitted
 abbrev pub left_at : Head → Option Omitted
 left_at (Kept f origin) = None
-left_at (Left o) = Some o
+left_at (LeftOut o) = Some o
 
 -- Inside the crate: the omitted functions, in order
 abbrev pub left_of : List Head → List Omitted

@@ -11,8 +11,8 @@ use Rattle.cfa_machine.specs.FullRow.{FullRow, columns_of}
 use Rattle.sf_express.specs.Rules.{content_of}
 use Rattle.sf_express.specs.Runs.{Saying, omission_of, function_of}
 use Rattle.sf_asm.specs.declared.entry.Entry.{Entry}
-use Rattle.sf_asm.specs.declared.entry.Outcome.{Outcome}
-use Rattle.sf_asm.specs.declared.entry.Outcome.TheVariants as outcome
+use Rattle.sf_asm.specs.declared.entry.Expressed.{Expressed}
+use Rattle.sf_asm.specs.declared.entry.Expressed.TheVariants as outcome
 use Rattle.sf_asm.specs.Functions.{Function}
 
 -- the row of a function at an offset, with all registers
@@ -28,9 +28,9 @@ abbrev pub facts_of : Function → FdeFacts
 facts_of f = record { start = f.start; size = f.size; column = f.column; signal = f.signal; key = f.key }
 
 -- what becomes of it: kept as SFrame expresses it, or omitted
-abbrev pub outcome_by : Result Func Omission → Outcome
+abbrev pub outcome_by : Result Func Omission → Expressed
 outcome_by (Ok function) = outcome.Kept function
-outcome_by (Err omission) = outcome.Left omission
+outcome_by (Err omission) = outcome.LeftOut omission
 
 -- a function with its addresses and origin, and what becomes of it
 abbrev pub entry_of : Function → Entry

@@ -8,12 +8,12 @@ use Rattle.cfa_machine.specs.Pass.{rows_by}
 use Rattle.eh_records.specs.declared.fde.Fde.{Fde}
 use Rattle.eh_records.specs.Fde.{fde_view}
 use Rattle.eh_records.specs.Named.{HasNamed}
-use Rattle.sf_asm.specs.declared.frames.CallFrameSection.{CallFrameSection}
-use Rattle.sf_asm.specs.declared.initials.Initials.{Initials}
-use Rattle.sf_asm.specs.Initials.{AreInitial}
+use Rattle.sf_asm.specs.declared.call_frame_section.CallFrameSection.{CallFrameSection}
+use Rattle.sf_asm.specs.declared.initial_rows.InitialRows.{InitialRows}
+use Rattle.sf_asm.specs.InitialRows.{AreInitial}
 
 -- a frame description entry of a section, whose function has these addresses, where these initial rows of the section are kept
-pub record CanBeLent (section : CallFrameSection) (fde : Fde) (span : Span) (initials : Initials) : Type 0 where
+pub record CanBeLent (section : CallFrameSection) (fde : Fde) (span : Span) (initials : InitialRows) : Type 0 where
   -- its key is one of the machine's
   pub key : IsTrue (key_fits section.arch fde.cie.key)
   pub rows : AreInitial section.arch section.bytes.now initials

@@ -7,7 +7,7 @@ pub mod Sections
 pub mod Functions
 pub mod Kept
 pub mod Inputs
-pub mod Initials
+pub mod InitialRows
 pub mod Lent
 pub mod Linking
 pub mod ReadSoFar
@@ -19,5 +19,5 @@ pub mod Placing
 pub mod Accepted
 pub mod Sources
 pub mod Numbers
-pub mod Said
+pub mod ContentAt
 pub mod Described

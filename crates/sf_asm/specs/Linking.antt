@@ -13,7 +13,7 @@ use Rattle.sf_functions.specs.Order.{IsInOrder}
 use Rattle.sf_asm.specs.declared.entry.Entry.{Entry}
 use Rattle.sf_asm.specs.declared.fault.GatherFault.{GatherFault}
 use Rattle.sf_asm.specs.declared.fault.GatherFault.TheVariants as gather
-use Rattle.sf_asm.specs.declared.spans.Overlaps.{Overlaps}
+use Rattle.sf_asm.specs.declared.overlaps.Overlaps.{Overlaps}
 use Rattle.sf_asm.specs.declared.fault.LinkFault.{LinkFault}
 use Rattle.sf_asm.specs.declared.fault.LinkFault.TheVariants.{Gather, OutOfReach}
 use Rattle.sf_asm.specs.Entry.{kept_of, spans_of}

@@ -1,13 +1,13 @@
 -- Functions in the order of their addresses.
 use Rattle.std.specs.Prelude.{ℕ, ◌+◌, Bool, true, ◌&&◌, nat_le, ◌==◌, if◌then◌else◌, List, [], ◌∷◌, length}
 use Rattle.sf_asm.specs.declared.entry.Entry.{Entry}
-use Rattle.sf_asm.specs.declared.entry.Outcome.{Outcome}
-use Rattle.sf_asm.specs.declared.entry.Outcome.TheVariants.{Kept, Left}
+use Rattle.sf_asm.specs.declared.entry.Expressed.{Expressed}
+use Rattle.sf_asm.specs.declared.entry.Expressed.TheVariants.{Kept, LeftOut}
 
 -- the number of rows of a kept function; an omitted one has none
-abbrev pub rows_of : Outcome → ℕ
+abbrev pub rows_of : Expressed → ℕ
 rows_of (Kept f) = length f.rows
-rows_of (Left omission) = 0
+rows_of (LeftOut omission) = 0
 
 -- the same, with its addresses
 abbrev pub entry_rows : Entry → ℕ

@@ -15,8 +15,8 @@ use Rattle.eh_records.specs.Cie.{CieView}
 use Rattle.sf_model.specs.Function.{AreWritable}
 use Rattle.sf_functions.specs.Order.{IsInOrder}
 use Rattle.sf_asm.specs.Described.{Describe}
-use Rattle.sf_asm.specs.declared.entry.Outcome.{Outcome}
-use Rattle.sf_asm.specs.declared.entry.Outcome.TheVariants.{Kept, Left}
+use Rattle.sf_asm.specs.declared.entry.Expressed.{Expressed}
+use Rattle.sf_asm.specs.declared.entry.Expressed.TheVariants.{Kept, LeftOut}
 use Rattle.sf_asm.specs.declared.source.CommonPart.{CommonPart}
 use Rattle.sf_asm.specs.declared.source.Source.{Source}
 use Rattle.sf_asm.specs.declared.source.SourceItem.{SourceItem}
@@ -142,6 +142,6 @@ abbrev pub common_of : Arch → CieView → Common
 common_of arch cie = record { arch = arch; column = cie.return_address_register; signal = cie.signal; key = cie.key; code = cie.code_alignment_factor; factor = cie.data_alignment_factor; initial = listing cie.insns }
 
 -- the function, if it is omitted
-abbrev pub if_left : Outcome → Function → List Function
+abbrev pub if_left : Expressed → Function → List Function
 if_left (Kept g) f = []
-if_left (Left omission) f = f ∷ []
+if_left (LeftOut omission) f = f ∷ []

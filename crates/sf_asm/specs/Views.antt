@@ -10,7 +10,7 @@ use Rattle.elf_reloc.specs.Fields.{bits_in, is_dropped_field}
 use Rattle.elf_reloc.specs.Order.{places_check}
 use Rattle.elf_reloc.specs.Reading.{section_fixes}
 use Rattle.elf_reloc.specs.Views.{Reads, fixes_in}
-use Rattle.sf_asm.specs.declared.frames.CallFrameSection.{CallFrameSection}
+use Rattle.sf_asm.specs.declared.call_frame_section.CallFrameSection.{CallFrameSection}
 use Rattle.sf_asm.specs.declared.overlay.Overlay.{Overlay}
 use Rattle.sf_asm.specs.declared.overlay.Overlay.TheVariants.{Unchanged, Relocated}
 use Rattle.sf_asm.specs.Relocated.{Values, relocations_of}

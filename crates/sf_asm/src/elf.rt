@@ -17,13 +17,13 @@ ghost use Rattle.elf_groups.specs.Groups.{seen_after};
 ghost use Rattle.sf_asm.specs.Placing.{IsPlacing};
 ghost use Rattle.sf_asm.specs.Sections.{dropped_after, linked_check, placed_section};
 ghost use Rattle.sf_asm.specs.ReadSoFar.{AreSound, ReadsMore};
-ghost use Rattle.elf_groups.specs.Seen.{HasSeen};
+ghost use Rattle.elf_groups.specs.SeenSignatures.{HasSeen};
 
+use crate::call_frame_section::CallFrameSection;
 use crate::fault::AsmFault;
-use crate::frames::CallFrameSection;
 use crate::read::ReadFunctions;
 use crate::section::read_section;
-use elf_groups::Seen;
+use elf_groups::SeenSignatures;
 use elf_place::{PlaceFault, Placed};
 use elf_read::{Elf, ElfFault, ElfInput, Kind, LinkedElf};
 use sf_model::Arch;
@@ -75,15 +75,15 @@ fn place<'a>(
     alloc: Global,
     elf: &ElfInput<'a>,
     base: u64,
-    seen: &mut Seen<'a>,
+    seen: &mut SeenSignatures<'a>,
 ) -> Result<Placed<'a>, AsmFault>
     ensures placed { IfOk result (λ placed. (signatures : List (List ℕ)) → HasSeen seen.old signatures → IsPlacing signatures (file elf.now) base placed) }
     ensures read { OnOk result ((signatures : List (List ℕ)) → HasSeen seen.old signatures → place_check (file elf.now) (dropped_after signatures (file elf.now)) base ≡ Ok tt) }
     ensures seen { OnOk result ((signatures : List (List ℕ)) → HasSeen seen.old signatures → HasSeen seen.new (seen_after signatures (file elf.now))) }
     ensures fault { IfErr result (λ fault. (signatures : List (List ℕ)) → HasSeen seen.old signatures → (fault ≡ asm.NoMemory) ⊎ (named asm.Place (place_check (file elf.now) (dropped_after signatures (file elf.now)) base) ≡ Err fault)) }
 {
-    let gone = seen.dropped_groups(alloc, elf)?;
-    match Placed::new(alloc, elf, base, &gone) {
+    let dropped = seen.dropped_groups(alloc, elf)?;
+    match Placed::new(alloc, elf, base, &dropped) {
         Ok(placed) => Ok(placed),
         Err(fault) => Err(place_fault(fault)),
     }
@@ -141,7 +141,7 @@ fn read_checked<'a>(
     elf: &ElfInput<'a>,
     base: u64,
     lending: bool,
-    seen: &mut Seen<'a>,
+    seen: &mut SeenSignatures<'a>,
     read: &mut ReadFunctions<'a>,
 ) -> Result<Arch, AsmFault>
     requires { linked_check (file elf.now) ≡ Ok tt }
@@ -162,7 +162,7 @@ pub fn read_file<'a>(
     bytes: &'a [u8],
     base: u64,
     lending: bool,
-    seen: &mut Seen<'a>,
+    seen: &mut SeenSignatures<'a>,
     read: &mut ReadFunctions<'a>,
 ) -> Result<Arch, AsmFault>
     requires { length bytes.now < 2 ^ 32 }
@@ -182,7 +182,7 @@ pub fn read_linked<'a>(
     elf: &'a LinkedElf,
     base: u64,
     lending: bool,
-    seen: &mut Seen<'a>,
+    seen: &mut SeenSignatures<'a>,
     read: &mut ReadFunctions<'a>,
 ) -> Result<Arch, AsmFault>
     ensures exact { (signatures : List (List ℕ)) → HasSeen seen.old signatures → ReadsMore lending result read.old read.new (object_functions item signatures (record { form = Form.Elf; bytes = linked_file elf.now; base = base })) }

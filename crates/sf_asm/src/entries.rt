@@ -8,7 +8,7 @@ ghost use Rattle.sf_asm.specs.Linking.{InOrder};
 ghost use Rattle.sf_write.specs.declared.stored.StoredFunction.{StoredFunction as stored_fact};
 ghost use Rattle.sf_write.specs.Stored.{IsStored, stored_in};
 
-use crate::entry::{Entry, Head, Outcome};
+use crate::entry::{Entry, Expressed, Head};
 use sf_functions::{HasStart, sort_by_start};
 use sf_model::{Arch, Func, Omission, Omitted, Span};
 use sf_write::{PackedRows, StoredFunction, StoredList, StoredRows};
@@ -55,12 +55,16 @@ pub struct KeptFunctions {
     places: Vec<Place>,
 }
 
-/// Kept and omitted functions, both by rising start.
+/// The functions of all inputs together, the kept and the omitted ones.
 #[derive(Drop)]
-pub struct Parted {
+pub struct InputFunctions {
+    /// The machine of all inputs.
+    pub arch: Arch,
     /// The rows of the kept functions.
     pub rows: StoredRows,
+    /// The functions that SFrame can express, by rising start.
     pub kept: KeptFunctions,
+    /// The functions that it can't, by start and then origin.
     pub omitted: Vec<Omitted>,
 }
 
@@ -114,12 +118,12 @@ fn store(
 {
     let Entry { span, outcome } = entry;
     match outcome {
-        Outcome::Kept(function) => {
+        Expressed::Kept(function) => {
             let stored = rows.push_packed(arch, &function)?;
             *spare = function.into_rows();
             Ok(Head::Kept(stored, span.origin))
         }
-        Outcome::Left(omission) => Ok(Head::Left(Omitted {
+        Expressed::LeftOut(omission) => Ok(Head::LeftOut(Omitted {
             start: span.start,
             size: span.size,
             origin: span.origin,
@@ -139,7 +143,7 @@ fn function_of(
 {
     match head {
         Head::Kept(stored, _) => Ok(Ok(rows.function(alloc, stored)?)),
-        Head::Left(omitted) => Ok(Err(omitted.omission)),
+        Head::LeftOut(omitted) => Ok(Err(omitted.omission)),
     }
 }
 
@@ -236,15 +240,16 @@ impl OrderedEntries {
     {
         let mut omitted = Vec::new(alloc);
         for place in self.places.as_slice() {
-            if let Head::Left(function) = self.heads[place.index] {
+            if let Head::LeftOut(function) = self.heads[place.index] {
                 omitted.push(function)?;
             }
         }
         Ok(omitted)
     }
 
-    /// Parts the kept functions from the omitted ones.
-    pub fn part(self, alloc: Global) -> Result<Parted, AllocError>
+    /// Parts the kept functions from the omitted ones, all of which are of one machine.
+    pub fn part(self, alloc: Global, arch: Arch) -> Result<InputFunctions, AllocError>
+        ensures arch { IfOk result (λ parted. parted.arch ≡ arch) }
         ensures stored { IfOk result (λ parted. All (IsStored parted.rows) parted.kept) }
         ensures kept { IfOk result (λ parted. map (stored_in parted.rows) parted.kept ≡ kept_of self) }
         ensures omitted { IfOk result (λ parted. parted.omitted.items ≡ omitted_of self) }
@@ -256,7 +261,8 @@ impl OrderedEntries {
             rows,
         } = self;
         places.retain(|place| matches!(heads.get(place.index), Some(Head::Kept(..))));
-        Ok(Parted {
+        Ok(InputFunctions {
+            arch,
             rows,
             kept: KeptFunctions { heads, places },
             omitted,
@@ -288,7 +294,7 @@ impl StoredList for KeptFunctions {
     fn function(&self, number: usize) -> &StoredFunction {
         match &self.heads[self.places[number].index] {
             Head::Kept(function, _) => function,
-            Head::Left(_) => unreachable!(),
+            Head::LeftOut(_) => unreachable!(),
         }
     }
 }

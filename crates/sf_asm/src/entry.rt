@@ -5,18 +5,18 @@ use sf_write::{PackedFunction, StoredFunction};
 
 /// What became of a function.
 #[derive(Drop)]
-pub enum Outcome {
+pub enum Expressed {
     /// SFrame can express it.
     Kept(PackedFunction),
     /// SFrame can't express it.
-    Left(Omission),
+    LeftOut(Omission),
 }
 
 /// A function with its addresses and origin, and what became of it.
 #[derive(Drop)]
 pub struct Entry {
     pub span: Span,
-    pub outcome: Outcome,
+    pub outcome: Expressed,
 }
 
 impl Entry {
@@ -29,8 +29,8 @@ impl Entry {
         ensures { result ≡ entry_rows self.now }
     {
         match &self.outcome {
-            Outcome::Kept(function) => function.head().rows as usize,
-            Outcome::Left(_) => 0,
+            Expressed::Kept(function) => function.head().rows as usize,
+            Expressed::LeftOut(_) => 0,
         }
     }
 }
@@ -41,7 +41,7 @@ pub enum Head {
     /// SFrame can express it. It came from this record.
     Kept(StoredFunction, Origin),
     /// SFrame can't express it.
-    Left(Omitted),
+    LeftOut(Omitted),
 }
 
 impl Head {
@@ -55,7 +55,7 @@ impl Head {
     {
         match self {
             Head::Kept(function, _) => function.head.start,
-            Head::Left(omitted) => omitted.start,
+            Head::LeftOut(omitted) => omitted.start,
         }
     }
 
@@ -70,7 +70,7 @@ impl Head {
                 size: u64::from(function.head.size),
                 origin: *origin,
             },
-            Head::Left(omitted) => Span {
+            Head::LeftOut(omitted) => Span {
                 start: omitted.start,
                 size: omitted.size,
                 origin: omitted.origin,

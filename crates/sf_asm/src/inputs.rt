@@ -8,13 +8,13 @@ ghost use Rattle.sf_asm.specs.Fault.{wraps_input};
 ghost use Rattle.sf_asm.specs.Functions.{Function, functions_of, machine_of, named, object_functions, object_of, seen_behind, unless};
 ghost use Rattle.sf_asm.specs.Inputs.{is_same, mixed_among, with_before};
 ghost use Rattle.sf_asm.specs.ReadSoFar.{AreReadSoFar, AreSound, ReadsAll};
-ghost use Rattle.elf_groups.specs.Seen.{HasSeen};
+ghost use Rattle.elf_groups.specs.SeenSignatures.{HasSeen};
 
 use crate::fault::{AsmFault, GatherFault};
 use crate::input::Input;
 use crate::read::{AllFunctions, ReadFunctions};
 use crate::reading::read_input;
-use elf_groups::Seen;
+use elf_groups::SeenSignatures;
 use sf_model::Arch;
 use std::alloc::Global;
 
@@ -34,7 +34,7 @@ fn read_item<'a>(
     item: u32,
     input: &Input<'a>,
     lending: bool,
-    seen: &mut Seen<'a>,
+    seen: &mut SeenSignatures<'a>,
     read: &mut ReadFunctions<'a>,
 ) -> Result<Arch, GatherFault>
     requires { length (object_of input.now).bytes < 2 ^ 32 }
@@ -65,7 +65,7 @@ pub fn read_all<'a>(
     ensures sound { IfOk result (λ all. (arch : machine) → All (λ machine. machine ≡ arch) all.machines.items → AreSound arch all.read) }
     ensures fault { IfErr result (λ fault. (fault ≡ NoMemory) ⊎ (functions_of first (map object_of inputs.now) ≡ Err fault)) }
 {
-    let mut seen = Seen::new(alloc);
+    let mut seen = SeenSignatures::new(alloc);
     let mut all = AllFunctions {
         machines: Vec::new(alloc),
         read: ReadFunctions::new(alloc),

@@ -7,15 +7,15 @@ ghost use Rattle.cfa_insn.specs.Listing.{listing};
 ghost use Rattle.cfa_machine.specs.Initial.{IsInitial};
 ghost use Rattle.eh_records.specs.Cie.{cie_view};
 ghost use Rattle.sf_asm.specs.declared.fault.AsmFault.TheVariants.{NoMemory};
-ghost use Rattle.sf_asm.specs.Initials.{AreInitial};
+ghost use Rattle.sf_asm.specs.InitialRows.{AreInitial};
 ghost use Rattle.sf_asm.specs.Lent.{CanBeLent};
 ghost use Rattle.sf_asm.specs.Numbers.{AreNumbered, IsNumberOf};
 ghost use Rattle.sf_asm.specs.Sources.{common_of, common_view, function_by_span, if_left};
 
-use crate::entry::{Entry, Outcome};
+use crate::call_frame_section::CallFrameSection;
+use crate::entry::{Entry, Expressed};
 use crate::fault::AsmFault;
-use crate::frames::CallFrameSection;
-use crate::initials::{InitialInstructions, Initials};
+use crate::initial_rows::{InitialInstructions, InitialRows};
 use crate::numbers::CommonNumbers;
 use crate::source::{CommonPart, SourceItem};
 use crate::sources::Sources;
@@ -48,7 +48,7 @@ fn add_common<'a>(
     section: &CallFrameSection<'a>,
     fde: &Fde<'a>,
     span: Span,
-    initials: &mut Initials,
+    initials: &mut InitialRows,
     numbers: &mut CommonNumbers,
     sources: &mut Sources<'a>,
 ) -> Result<u32, AsmFault>
@@ -77,7 +77,7 @@ fn common_number<'a>(
     section: &CallFrameSection<'a>,
     fde: &Fde<'a>,
     span: Span,
-    initials: &mut Initials,
+    initials: &mut InitialRows,
     numbers: &mut CommonNumbers,
     sources: &mut Sources<'a>,
 ) -> Result<u32, AsmFault>
@@ -101,7 +101,7 @@ fn lend_source<'a>(
     section: &CallFrameSection<'a>,
     fde: &Fde<'a>,
     span: Span,
-    initials: &mut Initials,
+    initials: &mut InitialRows,
     numbers: &mut CommonNumbers,
     sources: &mut Sources<'a>,
 ) -> Result<(), AsmFault>
@@ -130,7 +130,7 @@ pub fn lend<'a>(
     fde: &Fde<'a>,
     entry: &Entry,
     lending: bool,
-    initials: &mut Initials,
+    initials: &mut InitialRows,
     numbers: &mut CommonNumbers,
     sources: &mut Sources<'a>,
 ) -> Result<(), AsmFault>
@@ -144,7 +144,7 @@ pub fn lend<'a>(
     if !lending {
         return Ok(());
     }
-    if let Outcome::Left(_) = entry.outcome {
+    if let Expressed::LeftOut(_) = entry.outcome {
         lend_source(section, fde, entry.span, initials, numbers, sources)?;
     }
     Ok(())

@@ -7,7 +7,7 @@ ghost use Rattle.cfa_machine.specs.Left.{rows_left};
 ghost use Rattle.cfa_machine.specs.Pass.{rows_by};
 ghost use Rattle.sf_express.specs.Pieces.{AreSaidBy, content_in};
 ghost use Rattle.sf_asm.specs.Kept.{says_of};
-ghost use Rattle.sf_asm.specs.Said.{AllFit, form_content, has_form};
+ghost use Rattle.sf_asm.specs.ContentAt.{AllFit, form_content, has_form};
 ghost use Rattle.sf_asm.specs.Sources.{source_function};
 
 use crate::source::Source;
@@ -18,7 +18,7 @@ use sf_model::Arch;
 use std::alloc::Global;
 
 /// Returns whether SFrame has a form for the frames of a function.
-fn is_sayable(source: &Source<'_>) -> bool
+fn has_sframe_form(source: &Source<'_>) -> bool
     ensures { result ≡ has_form (source_function source.now) }
 {
     source.facts.column == return_address_of(source.arch) && !source.facts.signal
@@ -59,7 +59,7 @@ fn pieces_of<'a>(
 }
 
 /// Returns one piece without a content.
-fn nothing_said(alloc: Global) -> Result<Vec<Piece>, NoMemory>
+fn no_content(alloc: Global) -> Result<Vec<Piece>, NoMemory>
     ensures { IfOk result (λ pieces. pieces.items ≡ record { start = 0; content = None } ∷ []) }
 {
     let mut pieces = Vec::new(alloc);
@@ -72,7 +72,7 @@ fn nothing_said(alloc: Global) -> Result<Vec<Piece>, NoMemory>
 
 /// Returns a function's pieces: its content from offset to offset, if SFrame has a form for it, with a piece where it
 /// changes. The caller owes a function that is not empty.
-pub fn pieces_said<'a>(
+pub fn content_pieces<'a>(
     alloc: Global,
     source: &Source<'a>,
     run: &mut Runner<'a>,
@@ -81,9 +81,9 @@ pub fn pieces_said<'a>(
     ensures said { IfOk result (λ pieces. AreSaidBy source.now.facts.size (form_content (source_function source.now)) pieces.items) }
     ensures fits { IfOk result (λ pieces. AllFit source.now.arch pieces.items) }
 {
-    if is_sayable(source) {
+    if has_sframe_form(source) {
         pieces_of(alloc, source, run)
     } else {
-        nothing_said(alloc)
+        no_content(alloc)
     }
 }

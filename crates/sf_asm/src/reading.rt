@@ -3,15 +3,15 @@
 ghost use Rattle.std.specs.Prelude.{◌≡◌, ◌<◌, ◌^◌, ℕ, List, [], ◌∷◌, length, IfOk, OnOk};
 ghost use Rattle.sf_asm.specs.Functions.{bare_section, machine_of, object_functions, object_of, sections_functions, seen_behind};
 ghost use Rattle.sf_asm.specs.ReadSoFar.{AreSound, ReadsMore};
-ghost use Rattle.elf_groups.specs.Seen.{HasSeen};
+ghost use Rattle.elf_groups.specs.SeenSignatures.{HasSeen};
 
+use crate::call_frame_section::CallFrameSection;
 use crate::elf::{read_file, read_linked};
 use crate::fault::AsmFault;
-use crate::frames::CallFrameSection;
 use crate::input::{Input, InputBytes};
 use crate::read::ReadFunctions;
 use crate::section::read_section;
-use elf_groups::Seen;
+use elf_groups::SeenSignatures;
 use sf_model::Arch;
 use std::alloc::Global;
 
@@ -50,7 +50,7 @@ pub fn read_input<'a>(
     item: u32,
     input: &Input<'a>,
     lending: bool,
-    seen: &mut Seen<'a>,
+    seen: &mut SeenSignatures<'a>,
     read: &mut ReadFunctions<'a>,
 ) -> Result<Arch, AsmFault>
     requires { length (object_of input.now).bytes < 2 ^ 32 }

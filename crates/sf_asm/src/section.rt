@@ -25,7 +25,7 @@ ghost use Rattle.sf_asm.specs.Entry.{IsSound};
 ghost use Rattle.sf_asm.specs.Fault.{wraps_record, wraps_reloc, wraps_machine};
 ghost use Rattle.sf_asm.specs.declared.fault.AsmFault.TheVariants.{NoMemory, Record};
 ghost use Rattle.sf_asm.specs.Functions.{function_in, functions_in, named, section_functions, span_in};
-ghost use Rattle.sf_asm.specs.Initials.{AreInitial};
+ghost use Rattle.sf_asm.specs.InitialRows.{AreInitial};
 ghost use Rattle.sf_asm.specs.Lent.{CanBeLent};
 ghost use Rattle.sf_asm.specs.Kept.{entry_of, outcome_by};
 ghost use Rattle.sf_asm.specs.ReadSoFar.{AreNumberedIn, AreSound, ReadsFunctions, ReadsMore};
@@ -33,10 +33,10 @@ ghost use Rattle.sf_asm.specs.Relocated.{pointer_check};
 ghost use Rattle.sf_asm.specs.Sources.{function_by_span};
 ghost use Rattle.sf_asm.specs.Views.{AreChecked, IsReadFrom, overlaid, relocations_by, seen_section, written_by};
 
-use crate::entry::{Entry, Outcome};
+use crate::call_frame_section::CallFrameSection;
+use crate::entry::{Entry, Expressed};
 use crate::fault::AsmFault;
-use crate::frames::CallFrameSection;
-use crate::initials::{InitialInstructions, Initials};
+use crate::initial_rows::{InitialInstructions, InitialRows};
 use crate::lent::lend;
 use crate::numbers::CommonNumbers;
 use crate::overlay::Overlay;
@@ -145,7 +145,7 @@ fn begin_rows<'a>(
     section: &CallFrameSection<'a>,
     fde: &Fde<'a>,
     size: u64,
-    initials: &mut Initials,
+    initials: &mut InitialRows,
     run: &mut Runner<'a>,
 ) -> Result<(), AsmFault>
     requires initials { AreInitial section.now.arch section.now.bytes.now initials.old }
@@ -192,15 +192,15 @@ fn outcome_of(
     facts: &FdeFacts,
     run: &mut Runner<'_>,
     spare: &mut PackedRows,
-) -> Result<Outcome, AsmFault>
+) -> Result<Expressed, AsmFault>
     requires limit { limit run.old ≡ facts.now.size }
     requires rows { (rows : List DwRow) → rows_left run.old ≡ Ok rows → AreRows section.now.arch facts.now.size rows }
     ensures given { IfOk result (λ outcome. on_rows (λ rows. outcome_by (function_by section.now.arch facts.now rows)) (rows_left run.old) ≡ Ok outcome) }
     ensures fault { IfErr result (λ fault. IsRowsFault section.now.number fault (rows_left run.old)) }
 {
     match express_run(section.arch, facts, run, spare) {
-        Ok(Ok(head)) => Ok(Outcome::Kept(packed(alloc, section.arch, head, spare))),
-        Ok(Err(omission)) => Ok(Outcome::Left(omission)),
+        Ok(Ok(head)) => Ok(Expressed::Kept(packed(alloc, section.arch, head, spare))),
+        Ok(Err(omission)) => Ok(Expressed::LeftOut(omission)),
         Err(fault) => Err(machine_fault(section.number, fault)),
     }
 }
@@ -226,7 +226,7 @@ fn read_function<'a>(
     section: &CallFrameSection<'a>,
     overlay: &Overlay,
     fde: &Fde<'a>,
-    initials: &mut Initials,
+    initials: &mut InitialRows,
     run: &mut Runner<'a>,
     spare: &mut PackedRows,
 ) -> Result<Entry, AsmFault>
@@ -264,7 +264,7 @@ fn add_function<'a>(
     fde: &Fde<'a>,
     entry: Entry,
     lending: bool,
-    initials: &mut Initials,
+    initials: &mut InitialRows,
     numbers: &mut CommonNumbers,
     spare: &mut PackedRows,
     read: &mut ReadFunctions<'a>,
@@ -312,7 +312,7 @@ fn read_frames<'a>(
     ensures exact { (relocations : Result (List RelocatedField) reloc_fault) → ReadsMore lending result read.old read.new (functions_in section.now.arch section.now.item (seen_section section.now relocations) (overlaid (written_by overlay.now)) (frames (entries_of_records records.now))) }
     ensures sound { OnOk result (AreSound section.now.arch read.old → AreSound section.now.arch read.new) }
 {
-    let mut initials = Initials::new(alloc);
+    let mut initials = InitialRows::new(alloc);
     let mut numbers = CommonNumbers::new(alloc);
     let mut run = Runner::new();
     let mut spare = PackedRows::new(alloc);

@@ -5,9 +5,8 @@
 //! The result of merging is one definition (`Merges` of `specs/Merging.antt`): these functions, or the first
 //! fault. The section returned is the `Tight` and `Narrow` one, by the definitions of `sf_model`, of the tables'
 //! union (`IsUnion`). At each address a look-up finds in it the row of the table that has one there (`FindAlike`).
-//! [`join`] makes lists of functions into one list by rising start. [`in_order`] returns the functions of one
-//! section by start, and leaves their rows in the section. [`shared_entry`] finds the entry of the first function
-//! that shares an address with the one before it, with rows or without.
+//! [`in_order`] returns the functions of one section by start, and leaves their rows in the section. [`shared_entry`] finds
+//! the entry of the first function that shares an address with the one before it, with rows or without.
 //!
 //! Laws: merging has one result ([`merging_comes_to_one_result`], [`merging_comes_to_a_result`]), so `merge`
 //! returns Ok exactly where the definition has no fault; sections that are merged in parts, on several machines,
@@ -18,6 +17,8 @@
 //! one list, and stores the rows of all in another, as the bytes of the section that is made. All functions are
 //! sorted once: n functions cost about n log n steps, and one pass where they are in order, as those of one
 //! section by rising start are.
+//!
+//! [`join`] makes lists of functions into one list by rising start.
 #![tactic(auto)]
 
 mod checking;
@@ -25,8 +26,8 @@ mod fault;
 mod functions;
 mod head;
 mod in_section;
-mod joining;
 mod laws;
+mod list_forms;
 mod located;
 mod merging;
 mod notices;
@@ -36,8 +37,8 @@ mod with_rows;
 
 pub use fault::MergeFault;
 pub use in_section::{SectionEntry, SectionFunctions};
-pub use joining::join;
 pub use laws::{merging_comes_to_a_result, merging_comes_to_one_result, merging_in_parts};
+pub use list_forms::join;
 pub use located::Located;
 pub use merging::{MergedSection, merge};
 pub use overlap::shared_entry;

@@ -10,7 +10,7 @@ use Rattle.elf_read.specs.Header.{header_fields}
 use Rattle.elf_read.specs.Number.{lies_in}
 use Rattle.elf_read.specs.Sections.{segment_total}
 use Rattle.elf_read.proofs.Each.{both_fine}
-use Rattle.core_notes.specs.Room.{HeadersLie}
+use Rattle.core_notes.specs.TotalSize.{HeadersLie}
 use Rattle.sf_modules.specs.Reading.{headers_part}
 
 no_fault : (check : ElfCheck) → headers_part check ≡ Ok tt → check ≡ Ok tt

@@ -7,7 +7,7 @@ use Rattle.elf_read.specs.Checks.{program_headers_check}
 use Rattle.elf_read.specs.Header.{kind_of}
 use Rattle.elf_read.specs.Parsing.{file_check}
 use Rattle.elf_read.specs.Sections.{is_compressed, section_bytes, section_header, segment_total}
-use Rattle.core_notes.specs.Room.{note_room_check}
+use Rattle.core_notes.specs.TotalSize.{note_room_check}
 use Rattle.sf_decode.specs.declared.fault.DecodeFault.{DecodeFault}
 use Rattle.sf_decode.specs.Decoding.{section_check}
 use Rattle.sf_modules.specs.declared.fault.ModuleFault.TheVariants.{Elf, NoSection, Segments, NotMapped, Mapping, Ambiguous, Build, Section}

@@ -6,7 +6,7 @@ ghost use Rattle.elf_read.specs.Header.{kind_of};
 ghost use Rattle.elf_read.specs.Sections.{segment_total};
 ghost use Rattle.elf_mapped.specs.Program.{program_bytes};
 ghost use Rattle.elf_mapped.specs.Sframe.{sframe_section};
-ghost use Rattle.core_notes.specs.Room.{HeadersLie};
+ghost use Rattle.core_notes.specs.TotalSize.{HeadersLie};
 ghost use Rattle.elf_load.specs.Segments.{page_floor};
 ghost use Rattle.sf_modules.specs.Fault.{OnlyRefuses, verdict};
 ghost use Rattle.sf_modules.specs.File as spec;

@@ -11,8 +11,8 @@ use Rattle.sf_model.specs.declared.omission.Reason.TheVariants.{EmptyRange, Size
 use Rattle.cfa_machine.specs.Registers.{return_address}
 use Rattle.sf_express.specs.Expressed.{reason_of}
 use Rattle.sf_express.specs.Runs.{expressed, function_of, omission_of, unless_omitted, first_against, whole_or_row}
-use Rattle.sf_asm.specs.declared.entry.Outcome.{Outcome}
-use Rattle.sf_asm.specs.declared.entry.Outcome.TheVariants as outcome
+use Rattle.sf_asm.specs.declared.entry.Expressed.{Expressed}
+use Rattle.sf_asm.specs.declared.entry.Expressed.TheVariants as outcome
 use Rattle.sf_asm.specs.Entry.{kept_in, kept_of}
 use Rattle.sf_asm.specs.Functions.{Function}
 use Rattle.sf_asm.specs.Kept.{entry_of, facts_of, is_kept, kept_functions, omitted_functions, outcome_by, says_of}
@@ -31,7 +31,7 @@ pub record IsKept (f : Function) : Type 0 where
 
 pub record IsTable (f : Function) : Type 0 where
   pub omission : Omission
-  pub outcome_is : (entry_of f).outcome ≡ outcome.Left omission
+  pub outcome_is : (entry_of f).outcome ≡ outcome.LeftOut omission
   pub kept : is_kept f ≡ false
   pub table : is_plt f ≡ true
   pub content : Content
@@ -39,7 +39,7 @@ pub record IsTable (f : Function) : Type 0 where
 
 pub record IsOther (f : Function) : Type 0 where
   pub omission : Omission
-  pub outcome_is : (entry_of f).outcome ≡ outcome.Left omission
+  pub outcome_is : (entry_of f).outcome ≡ outcome.LeftOut omission
   pub kept : is_kept f ≡ false
   pub table : is_plt f ≡ false
 
@@ -97,22 +97,22 @@ pub record Lists (f : Function) (fs : List Function) (written kept : List Func) 
   pub kept_functions_are : kept_functions (f ∷ fs) ≡ kept_fs
   pub tables_are : plt_functions (f ∷ fs) ≡ tables
 
-abbrev kept_by : Outcome → List Function → List Func
+abbrev kept_by : Expressed → List Function → List Func
 kept_by o fs = cons_option (kept_in o) (kept_of (map entry_of fs))
 
 pub kept_lists : (f : Function) (fs : List Function) → IsKept f → Lists f fs (expressed_of f ∷ written_functions fs) (expressed_of f ∷ kept_of (map entry_of fs)) (f ∷ kept_functions fs) (plt_functions fs)
 kept_lists f fs h = record {
-  written_is = ap (λ (o : Outcome). written_as f o ++ written_functions fs) h.outcome_is;
-  kept_is = ap (λ (o : Outcome). kept_by o fs) h.outcome_is;
+  written_is = ap (λ (o : Expressed). written_as f o ++ written_functions fs) h.outcome_is;
+  kept_is = ap (λ (o : Expressed). kept_by o fs) h.outcome_is;
   kept_functions_are = ap (λ (b : Bool). cond b (f ∷ kept_functions fs) (kept_functions fs)) h.kept;
   tables_are = ap (λ (b : Bool). filter is_plt (cond (not b) (f ∷ omitted_functions fs) (omitted_functions fs))) h.kept;
 }
 
 pub table_lists : (f : Function) (fs : List Function) (h : IsTable f) → Lists f fs (first_entry f h.content ∷ later_entries f h.content ∷ written_functions fs) (kept_of (map entry_of fs)) (kept_functions fs) (f ∷ plt_functions fs)
 table_lists f fs h = record {
-  written_is = ap (λ (o : Outcome). written_as f o ++ written_functions fs) h.outcome_is ∙ ap (λ (b : Bool). cond b (plt_pair f) [] ++ written_functions fs) h.table
+  written_is = ap (λ (o : Expressed). written_as f o ++ written_functions fs) h.outcome_is ∙ ap (λ (b : Bool). cond b (plt_pair f) [] ++ written_functions fs) h.table
       ∙ ap (λ (x : Option Content). pair_by f x ++ written_functions fs) h.content_is;
-  kept_is = ap (λ (o : Outcome). kept_by o fs) h.outcome_is;
+  kept_is = ap (λ (o : Expressed). kept_by o fs) h.outcome_is;
   kept_functions_are = ap (λ (b : Bool). cond b (f ∷ kept_functions fs) (kept_functions fs)) h.kept;
   tables_are = ap (λ (b : Bool). filter is_plt (cond (not b) (f ∷ omitted_functions fs) (omitted_functions fs))) h.kept
       ∙ ap (λ (b : Bool). cond b (f ∷ plt_functions fs) (plt_functions fs)) h.table;
@@ -120,8 +120,8 @@ table_lists f fs h = record {
 
 pub other_lists : (f : Function) (fs : List Function) → IsOther f → Lists f fs (written_functions fs) (kept_of (map entry_of fs)) (kept_functions fs) (plt_functions fs)
 other_lists f fs h = record {
-  written_is = ap (λ (o : Outcome). written_as f o ++ written_functions fs) h.outcome_is ∙ ap (λ (b : Bool). cond b (plt_pair f) [] ++ written_functions fs) h.table;
-  kept_is = ap (λ (o : Outcome). kept_by o fs) h.outcome_is;
+  written_is = ap (λ (o : Expressed). written_as f o ++ written_functions fs) h.outcome_is ∙ ap (λ (b : Bool). cond b (plt_pair f) [] ++ written_functions fs) h.table;
+  kept_is = ap (λ (o : Expressed). kept_by o fs) h.outcome_is;
   kept_functions_are = ap (λ (b : Bool). cond b (f ∷ kept_functions fs) (kept_functions fs)) h.kept;
   tables_are = ap (λ (b : Bool). filter is_plt (cond (not b) (f ∷ omitted_functions fs) (omitted_functions fs))) h.kept
       ∙ ap (λ (b : Bool). cond b (f ∷ plt_functions fs) (plt_functions fs)) h.table;

@@ -24,7 +24,7 @@ use Rattle.sf_functions.specs.Limits.{exceeded}
 use Rattle.sf_functions.specs.Order.{IsInOrder}
 use Rattle.sf_functions.proofs.LimitsHeld as limits
 use Rattle.sf_asm.specs.declared.entry.Entry.{Entry}
-use Rattle.sf_asm.specs.declared.entry.Outcome.{Outcome}
+use Rattle.sf_asm.specs.declared.entry.Expressed.{Expressed}
 use Rattle.sf_asm.specs.declared.fault.GatherFault.{GatherFault}
 use Rattle.sf_asm.specs.declared.fault.GatherFault.TheVariants as gather
 use Rattle.sf_asm.specs.Answers.{IsFirstGathered}
@@ -72,8 +72,8 @@ func_rows g = length g.rows
 omitted_by : (f : Function) (fs : List Function) (b : Bool) → is_kept f ≡ b → omitted_functions (f ∷ fs) ≡ cond (not b) (f ∷ omitted_functions fs) (omitted_functions fs)
 omitted_by f fs b e = ap (λ (x : Bool). cond (not x) (f ∷ omitted_functions fs) (omitted_functions fs)) e
 
-rows_by : (f : Function) (fs : List Function) (o : Outcome) → (entry_of f).outcome ≡ o → sum_by entry_rows (map entry_of (f ∷ fs)) ≡ rows_of o + sum_by entry_rows (map entry_of fs)
-rows_by f fs o e = sum_by-cons entry_rows (entry_of f) (map entry_of fs) ∙ ap (λ (x : Outcome). rows_of x + sum_by entry_rows (map entry_of fs)) e
+rows_by : (f : Function) (fs : List Function) (o : Expressed) → (entry_of f).outcome ≡ o → sum_by entry_rows (map entry_of (f ∷ fs)) ≡ rows_of o + sum_by entry_rows (map entry_of fs)
+rows_by f fs o e = sum_by-cons entry_rows (entry_of f) (map entry_of fs) ∙ ap (λ (x : Expressed). rows_of x + sum_by entry_rows (map entry_of fs)) e
 
 pub counts : (fs : List Function) → Counts fs
 counts [] = record { functions = refl; kept = refl; written = omega arith; kept_rows = refl; rows = refl }

@@ -12,7 +12,7 @@ use Rattle.sf_model.specs.declared.omission.Omitted.{Omitted}
 use Rattle.sf_model.specs.declared.machine.Arch.{Arch}
 use Rattle.sf_model.specs.declared.omission.Span.{Span}
 use Rattle.sf_asm.specs.declared.entry.Entry.{Entry}
-use Rattle.sf_asm.specs.declared.entry.Outcome.{Outcome}
+use Rattle.sf_asm.specs.declared.entry.Expressed.{Expressed}
 use Rattle.sf_asm.specs.Entry.{omitted_in, omitted_of}
 use Rattle.sf_asm.specs.Functions.{Function}
 use Rattle.sf_asm.specs.Kept.{entry_of, is_kept, omitted_functions}
@@ -38,7 +38,7 @@ record OneOmitted (f : Function) (fs : List Function) : Type 0 where
   alone : omitted_of (map entry_of (f ∷ [])) ≡ line ∷ []
   front : omitted_of (map entry_of (f ∷ fs)) ≡ line ∷ omitted_of (map entry_of fs)
 
-abbrev omitted_by : Function → Outcome → List Function → List Omitted
+abbrev omitted_by : Function → Expressed → List Function → List Omitted
 omitted_by f o fs = cons_option (omitted_in (entry_of f).span o) (omitted_of (map entry_of fs))
 
 one_omitted : (f : Function) (fs : List Function) → is_kept f ≡ false → OneOmitted f fs
@@ -48,13 +48,13 @@ one_omitted f fs e = at_case (case_of f)
     at_case (kept_case k) = let is : true ≡ false = sym k.kept ∙ e in absurd cc
     at_case (table_case t) = record {
       line = record { start = f.start; size = f.size; origin = f.origin; omission = t.omission };
-      alone = ap (λ (o : Outcome). omitted_by f o []) t.outcome_is;
-      front = ap (λ (o : Outcome). omitted_by f o fs) t.outcome_is;
+      alone = ap (λ (o : Expressed). omitted_by f o []) t.outcome_is;
+      front = ap (λ (o : Expressed). omitted_by f o fs) t.outcome_is;
     }
     at_case (other_case t) = record {
       line = record { start = f.start; size = f.size; origin = f.origin; omission = t.omission };
-      alone = ap (λ (o : Outcome). omitted_by f o []) t.outcome_is;
-      front = ap (λ (o : Outcome). omitted_by f o fs) t.outcome_is;
+      alone = ap (λ (o : Expressed). omitted_by f o []) t.outcome_is;
+      front = ap (λ (o : Expressed). omitted_by f o fs) t.outcome_is;
     }
 
 pub omitted_count : (fs : List Function) → AreOmitted fs → length (omitted_of (map entry_of fs)) ≡ length fs
@@ -80,7 +80,7 @@ lines_alone (f ∷ fs) = at_case (case_of f) (lines_alone fs)
 
     at_case : Case f → omitted_of (map entry_of fs) ≡ omitted_of (map entry_of (omitted_functions fs)) → omitted_of (map entry_of (f ∷ fs)) ≡ omitted_of (map entry_of (omitted_functions (f ∷ fs)))
     at_case (kept_case k) h =
-        ap (λ (o : Outcome). omitted_by f o fs) k.outcome_is ∙ h ∙ sym (ap (λ (b : Bool). omitted_of (map entry_of (cond (not b) (f ∷ omitted_functions fs) (omitted_functions fs)))) k.kept)
+        ap (λ (o : Expressed). omitted_by f o fs) k.outcome_is ∙ h ∙ sym (ap (λ (b : Bool). omitted_of (map entry_of (cond (not b) (f ∷ omitted_functions fs) (omitted_functions fs)))) k.kept)
     at_case (table_case t) h = left t.omission t.kept h
     at_case (other_case o) h = left o.omission o.kept h
 

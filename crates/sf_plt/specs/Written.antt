@@ -11,8 +11,8 @@ use Rattle.sf_model.specs.declared.rows.Row.{Row}
 use Rattle.sf_model.specs.Memory.{Region}
 use Rattle.sf_model.specs.Walk.{ThreadState, Listing, Recovering, walk_by}
 use Rattle.cfa_machine.specs.Recovery.{RuleRecovery}
-use Rattle.sf_asm.specs.declared.entry.Outcome.{Outcome}
-use Rattle.sf_asm.specs.declared.entry.Outcome.TheVariants.{Kept, Left}
+use Rattle.sf_asm.specs.declared.entry.Expressed.{Expressed}
+use Rattle.sf_asm.specs.declared.entry.Expressed.TheVariants.{Kept, LeftOut}
 use Rattle.sf_asm.specs.Faithful.{holds_address, if_whole, recovered_at}
 use Rattle.sf_asm.specs.Functions.{Function}
 use Rattle.sf_asm.specs.Kept.{entry_of}
@@ -54,9 +54,9 @@ plt_pair f = pair_by f (initial_content f)
 
 -- ---- all functions
 -- the functions that are written for this outcome of expressing one
-abbrev pub written_as : Function → Outcome → List Func
+abbrev pub written_as : Function → Expressed → List Func
 written_as f (Kept g) = g ∷ []
-written_as f (Left omission) = if is_plt f then plt_pair f else []
+written_as f (LeftOut omission) = if is_plt f then plt_pair f else []
 
 -- the functions that are written for one: the function as it is expressed, or two functions, or none
 abbrev pub written_of : Function → List Func

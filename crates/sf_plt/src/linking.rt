@@ -9,7 +9,9 @@ ghost use Rattle.sf_plt.specs.Linking.{wraps_gathering};
 
 use crate::limits::{Counts, check_tables};
 use crate::sorting::sort_out;
-use sf_asm::{GatherFault, Input, LinkFault, Sources, Together, WithSources, gather_with_sources};
+use sf_asm::{
+    GatherFault, Input, InputFunctions, LinkFault, Sources, WithSources, gather_with_sources,
+};
 use sf_base::NoMemory;
 use sf_functions::{count_rows, sort_by_start};
 use sf_model::{Arch, Omitted, Span};
@@ -73,13 +75,13 @@ pub fn link_plt_with_sources<'a>(
         Ok(gathered) => gathered,
         Err(fault) => return Err(not_gathered(fault)),
     };
-    let WithSources { together, sources } = gathered;
-    let Together {
+    let WithSources { functions, sources } = gathered;
+    let InputFunctions {
         arch,
         rows,
         kept,
         omitted,
-    } = together;
+    } = functions;
     let count = kept.len();
     let functions = count + omitted.len();
     let row_count = count_rows(&kept) as usize;

@@ -41,8 +41,8 @@ use Rattle.sf_express.specs.Rules.{◌>>=◌ as ◌>>>◌, base_of, cfa_from, cf
 use Rattle.sf_express.specs.Runs.{Saying, begins, expressed, first_against, function_of, omission_of, row_there, rows_of, unless_omitted, whole_or_row}
 use Rattle.sf_express.proofs.Writable.{made}
 use Rattle.sf_asm.specs.declared.entry.Entry.{Entry}
-use Rattle.sf_asm.specs.declared.entry.Outcome.{Outcome}
-use Rattle.sf_asm.specs.declared.entry.Outcome.TheVariants.{Kept, Left}
+use Rattle.sf_asm.specs.declared.entry.Expressed.{Expressed}
+use Rattle.sf_asm.specs.declared.entry.Expressed.TheVariants.{Kept, LeftOut}
 use Rattle.sf_asm.specs.Entry.{IsSound, IsSoundOutcome, kept_in, kept_of}
 use Rattle.sf_asm.specs.Functions.{◌>>=◌, CallFrames, Function, Object, fault_in, function_at, function_in, functions_after, functions_in, functions_of, machine_of, named, object_functions, section_functions, sections_functions, seen_behind, sections_of, span_in, unless}
 use Rattle.sf_asm.specs.Kept.{entry_of, facts_of, outcome_by, says_of}
@@ -330,7 +330,7 @@ rows_there : (given : Result (List DwRow) MachineFault) → fault_of given ≡ N
 rows_there (Ok rows) e = (rows, refl)
 rows_there (Err fault) e = cc
 
-made_there : (f : Function) (given : Result (List DwRow) MachineFault) → fault_of given ≡ None → (outcome : Outcome) × (made_of f given ≡ Ok outcome)
+made_there : (f : Function) (given : Result (List DwRow) MachineFault) → fault_of given ≡ None → (outcome : Expressed) × (made_of f given ≡ Ok outcome)
 made_there f (Ok rows) e = (_, refl)
 made_there f (Err fault) e = cc
 
@@ -348,9 +348,9 @@ entry_sound arch f h =
     subst (λ (a : Arch). IsSoundOutcome a f.start f.size (entry_of f).outcome) h.machine (sound_by f (function_of f.arch (facts_of f) (says_of f)) refl h.end h.key h.runs)
 
 -- its numbers fit, where it is kept
-abbrev pub OutcomeFits : Outcome → Type 0
+abbrev pub OutcomeFits : Expressed → Type 0
 OutcomeFits (Kept g) = NumbersFit g
-OutcomeFits (Left omission) = Unit {0}
+OutcomeFits (LeftOut omission) = Unit {0}
 
 outcome_fits : (f : Function) (x : Result Func Omission) → function_of f.arch (facts_of f) (says_of f) ≡ x → OutcomeFits (outcome_by x)
 outcome_fits f (Ok g) e = expressed_fits f.arch (facts_of f) (says_of f) g (λ offset. content_in f.arch _) e
@@ -359,9 +359,9 @@ outcome_fits f (Err omission) e = tt
 pub entry_fits : (f : Function) → OutcomeFits (entry_of f).outcome
 entry_fits f = outcome_fits f (function_of f.arch (facts_of f) (says_of f)) refl
 
-kept_fits : (e : Entry) (g : Func) (outcome : Outcome) → OutcomeFits outcome → kept_in outcome ≡ Some g → NumbersFit g
+kept_fits : (e : Entry) (g : Func) (outcome : Expressed) → OutcomeFits outcome → kept_in outcome ≡ Some g → NumbersFit g
 kept_fits e g (Kept h) fits is = let same : h ≡ g = cc in subst NumbersFit same fits
-kept_fits e g (Left omission) fits is = cc
+kept_fits e g (LeftOut omission) fits is = cc
 
 pub all_kept_fit : (entries : List Entry) → All (λ (e : Entry). OutcomeFits e.outcome) entries → All NumbersFit (kept_of entries)
 all_kept_fit entries all = all_said (λ (e : Entry). OutcomeFits e.outcome) NumbersFit (λ (e : Entry). kept_in e.outcome) (λ e g fits is. kept_fits e g e.outcome fits is) entries all

@@ -106,7 +106,7 @@ delivered : (answer : Status) (made : Outcome) (command : CommandWords) (section
     → Delivered answer made ((files_of_command command).out) section text before after → RunEnds answer command before after
 delivered answer outcome.Done command section text before after comes (inl d) =
     subst (λ (s : Status). RunEnds s command before after) (sym d.0) record { section = section; text = text; comes = comes; left = d.1 }
-delivered answer outcome.No command section text before after comes (inl d) =
+delivered answer outcome.Negative command section text before after comes (inl d) =
     subst (λ (s : Status). RunEnds s command before after) (sym d.0) record { section = section; text = text; comes = comes; left = d.1 }
 delivered answer made command section text before after comes (inr d) =
     subst (λ (s : Status). RunEnds s command before after) (sym d.0) (made, record { section = section; text = text; comes = comes; left = d.1 })
@@ -143,7 +143,7 @@ answers_for answer command known before after e are ends fine = record { comes =
 
     at_status : (coming : Coming) → Comes command items coming → (answer : Status) → RunEnds answer command before after → (answer ≡ status_of coming) ⊎ GivesUp answer command items
     at_status coming comes status.Done h = inl (same _ coming comes h.comes)
-    at_status coming comes status.No h = inl (same _ coming comes h.comes)
+    at_status coming comes status.Negative h = inl (same _ coming comes h.comes)
     at_status coming comes status.Usage h = absurd h
     at_status coming comes status.Read h = absurd (fine.reads h.3)
     at_status coming comes status.Write h = absurd (elim h.1.left [
@@ -158,9 +158,9 @@ answers_for answer command known before after e are ends fine = record { comes =
     within nothing limit (inl h) = absurd (nothing.within limit (here _ h))
     within nothing limit (inr h) = gives_up limit h
 
-    accepted : RefusesNothing command items → (answer : Status) → RunEnds answer command before after → (answer ≡ status.Done) ⊎ ((answer ≡ status.No) ⊎ GivesUp answer command items)
+    accepted : RefusesNothing command items → (answer : Status) → RunEnds answer command before after → (answer ≡ status.Done) ⊎ ((answer ≡ status.Negative) ⊎ GivesUp answer command items)
     accepted nothing status.Done h = inl refl
-    accepted nothing status.No h = inr (inl refl)
+    accepted nothing status.Negative h = inr (inl refl)
     accepted nothing status.Usage h = absurd h
     accepted nothing status.Read h = absurd (fine.reads h.3)
     accepted nothing status.Write h = absurd (elim h.1.left [

@@ -109,8 +109,8 @@ pub record Leaves (command : CommandWords) (contents : Contents) (outcome : Outc
 abbrev pub RunEnds : Status → CommandWords → (before after : Seen) → Type 0
 RunEnds status.Done command before after =
     Leaves command before.files.contents outcome.Done (λ section text. Written (files_of_command command).out section text before after)
-RunEnds status.No command before after =
-    Leaves command before.files.contents outcome.No (λ section text. Written (files_of_command command).out section text before after)
+RunEnds status.Negative command before after =
+    Leaves command before.files.contents outcome.Negative (λ section text. Written (files_of_command command).out section text before after)
 RunEnds status.Usage command before after = ⊥
 RunEnds status.Read command before after =
     (name : List ℕ) × Contains (item_names (files_of_command command)) name × TurnedAway before after (read_line name) × Rose before.files.read_faults after.files.read_faults
@@ -143,7 +143,7 @@ GivesUp answer command items = (answer ≡ status.Memory) ⊎ ((answer ≡ statu
 -- the status is that of what the command comes to; and where nothing is refused, the run made something; unless it gave up
 pub record AnswersFor (answer : Status) (command : CommandWords) (items : List (List ℕ)) : Type 0 where
   pub comes : (coming : Coming) → Comes command items coming → (answer ≡ status_of coming) ⊎ GivesUp answer command items
-  pub accepted : RefusesNothing command items → (answer ≡ status.Done) ⊎ ((answer ≡ status.No) ⊎ GivesUp answer command items)
+  pub accepted : RefusesNothing command items → (answer ≡ status.Done) ⊎ ((answer ≡ status.Negative) ⊎ GivesUp answer command items)
 
 -- where the contents are known and no call failed, the run answers for the bytes that the files hold
 abbrev pub RunIsComplete : Status → CommandWords → (before after : Seen) → Type 0

@@ -19,7 +19,7 @@ use Rattle.sf_words.specs.Forms.{NameInputs, SectionAndInputs}
 use Rattle.sf_words.specs.Items.{Input as InputItem, Section as SectionItem}
 use Rattle.section_commands.specs.Coming.{Coming, Refused, Exceeded, Makes}
 use Rattle.section_commands.specs.declared.made.Outcome.{Outcome}
-use Rattle.section_commands.specs.declared.made.Outcome.TheVariants.{Done, No}
+use Rattle.section_commands.specs.declared.made.Outcome.TheVariants.{Done, Negative}
 use Rattle.section_commands.specs.SectionComes.{coming_of_decoding}
 use Rattle.sf_run.specs.Inputs.{objects_in}
 
@@ -40,7 +40,7 @@ coming_of_verifying fault = Refused (shown_of_verifying (Some 0) fault)
 -- the outcome is no if they differ
 abbrev pub verdict_outcome : Verdict → Outcome
 verdict_outcome (Agrees checked missing repeats) = Done
-verdict_outcome (Differs pc section dwarf) = No
+verdict_outcome (Differs pc section dwarf) = Negative
 
 abbrev pub coming_of_verdict : Result Verdict VerifyFault → Coming
 coming_of_verdict (Ok verdict) = Makes (verdict_outcome verdict) None (verdict_text verdict)

@@ -8,7 +8,7 @@ ghost use Rattle.sf_text.specs.Output.{output_text};
 ghost use Rattle.sf_run.specs.Ends.{Delivered, Stored, StoredIn, StoredPart, file_line, seen};
 ghost use Rattle.sf_run.specs.Lines.{Says};
 
-use crate::lines::{say, say_name};
+use crate::lines::{print_line, print_name};
 use crate::status::Status;
 use section_commands::Made;
 use sf_base::{Failed, Files, Sink, put_file};
@@ -46,12 +46,12 @@ fn store_made<F: Files>(
 }
 
 /// Prints that the file could not be written.
-fn say_file<E: Sink>(file: Option<&str>, err: &mut E)
+fn print_file<E: Sink>(file: Option<&str>, err: &mut E)
     requires { IsSome file }
     ensures { Says (E.seen err.old) (E.seen err.new) (file_line (option_map (λ name. name.now) file.entry)) }
 {
     if let Some(name) = file {
-        say_name(err, "write file ", name);
+        print_name(err, "write file ", name);
     }
 }
 
@@ -69,11 +69,11 @@ pub fn deliver<F: Files, O: Sink, E: Sink>(
         (seen (F.seen files.old) (O.seen out.old) (E.seen err.old)) (seen (F.seen files.new) (O.seen out.new) (E.seen err.new)) }
 {
     if store_made(files, file, &made.section).is_err() {
-        say_file(file, err);
+        print_file(file, err);
         return Status::Write;
     }
     if put_output(out, &made.output).is_err() {
-        say(err, "write output");
+        print_line(err, "write output");
         return Status::Write;
     }
     Status::of(made.outcome)

@@ -21,9 +21,9 @@ mod link;
 mod linked;
 mod object;
 mod procbacktrace;
+mod refusing;
 mod running;
 mod status;
-mod tell;
 mod verify;
 
 pub use backtrace::Backtrace;
@@ -32,7 +32,7 @@ pub use laws::{
     a_backtrace_is_the_walk_by_its_section, a_run_comes_to_one, a_run_comes_to_something,
     linking_comes_to_a_result, nothing_is_refused_of_inputs_that_can_be_linked,
 };
-pub use lines::say;
+pub use lines::print_line;
 pub use object::Gen;
 pub use running::run;
 pub use status::Status;

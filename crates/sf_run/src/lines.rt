@@ -29,14 +29,14 @@ fn put_name_line<S: Sink>(sink: &mut S, front: &str, name: &str) -> Result<(), F
 }
 
 /// Writes one line: the text and a line feed. If the sink fails, it got a prefix of the line.
-pub fn say<S: Sink>(sink: &mut S, text: &str)
+pub fn print_line<S: Sink>(sink: &mut S, text: &str)
     ensures { Says (S.seen sink.old) (S.seen sink.new) (line text.now) }
 {
     let _ = put_line(sink, text);
 }
 
 /// Writes one line that ends with a name, in which control characters are shown as `\xNN`, byte by byte.
-pub fn say_name<S: Sink>(sink: &mut S, front: &str, name: &str)
+pub fn print_name<S: Sink>(sink: &mut S, front: &str, name: &str)
     ensures { Says (S.seen sink.old) (S.seen sink.new) (line (front.now ++ shown_name name.now)) }
 {
     let _ = put_name_line(sink, front, name);

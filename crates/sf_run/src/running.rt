@@ -11,9 +11,9 @@ ghost use Rattle.sf_run.specs.Lines.{usage_line};
 
 use crate::command::{Command, command_words};
 use crate::deliver::deliver;
-use crate::lines::say;
+use crate::lines::print_line;
+use crate::refusing::refuse;
 use crate::status::Status;
-use crate::tell::tell;
 use core_parts::Wanted;
 use section_commands::Unmade;
 use sf_base::{Files, Sink};
@@ -51,7 +51,7 @@ fn make_and_deliver<'a, F: Files, O: Sink, E: Sink>(
 {
     match command.make(alloc, loaded) {
         Ok(made) => Ok(deliver(named.out, &made, files, out, err)),
-        Err(Unmade::Refused(refusal)) => Ok(tell(&refusal, err)),
+        Err(Unmade::Refused(refusal)) => Ok(refuse(&refusal, err)),
         Err(Unmade::Unread(addresses)) => Err(addresses),
     }
 }
@@ -84,7 +84,7 @@ fn deliver_again<'a, F: Files, O: Sink, E: Sink>(
 {
     match load_cores_again(alloc, loaded, files, wanted) {
         Ok(()) => make_and_deliver(alloc, command, named, loaded, files, out, err),
-        Err(refusal) => Ok(tell(&refusal, err)),
+        Err(refusal) => Ok(refuse(&refusal, err)),
     }
 }
 
@@ -114,7 +114,7 @@ fn deliver_in_rounds<'a, F: Files, O: Sink, E: Sink>(
             Ok(status) => return status,
             Err(addresses) => {
                 if missed.extend_from_slice(&addresses).is_err() {
-                    return tell(&Refusal::Memory, err);
+                    return refuse(&Refusal::Memory, err);
                 }
             }
         }
@@ -146,7 +146,7 @@ fn load_and_deliver<'a, F: Files, O: Sink, E: Sink>(
 {
     let loaded = match load_all(alloc, named, files, Wanted::Memory(&[])) {
         Ok(loaded) => loaded,
-        Err(refusal) => return tell(&refusal, err),
+        Err(refusal) => return refuse(&refusal, err),
     };
     match make_and_deliver(alloc, command, named, &loaded, files, out, err) {
         Ok(status) => status,
@@ -172,7 +172,7 @@ fn run_command<F: Files, O: Sink, E: Sink>(
 {
     let named = command.files();
     if named.list.len() > ITEM_COUNT {
-        return tell(&Refusal::Limit(Limit::Inputs), err);
+        return refuse(&Refusal::Limit(Limit::Inputs), err);
     }
     load_and_deliver(alloc, command, &named, files, out, err)
 }
@@ -208,7 +208,7 @@ pub fn run<F: Files, O: Sink, E: Sink>(
         (seen (F.seen files.old) (O.seen out.old) (E.seen err.old)) (seen (F.seen files.new) (O.seen out.new) (E.seen err.new)) }
 {
     let Some(command) = command_words(words) else {
-        say(err, "usage");
+        print_line(err, "usage");
         return Status::Usage;
     };
     run_command(alloc, &command, files, out, err)

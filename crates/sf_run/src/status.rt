@@ -11,7 +11,7 @@ pub enum Status {
     /// The command's result was written.
     Done,
     /// A comparison found a difference, or a look-up found nothing.
-    No,
+    Negative,
     /// The words have none of the forms.
     Usage,
     /// An item could not be read.
@@ -33,7 +33,7 @@ impl Status {
     {
         match outcome {
             Outcome::Done => Status::Done,
-            Outcome::No => Status::No,
+            Outcome::Negative => Status::Negative,
         }
     }
 
@@ -43,7 +43,7 @@ impl Status {
     {
         match self {
             Status::Done => 0,
-            Status::No => 1,
+            Status::Negative => 1,
             Status::Usage => 2,
             Status::Read => 3,
             Status::Write => 4,

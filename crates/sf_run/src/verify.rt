@@ -45,7 +45,7 @@ fn outcome_of(verdict: &Verdict) -> Outcome
 {
     match verdict {
         Verdict::Agrees { .. } => Outcome::Done,
-        Verdict::Differs { .. } => Outcome::No,
+        Verdict::Differs { .. } => Outcome::Negative,
     }
 }
 

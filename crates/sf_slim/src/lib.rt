@@ -16,9 +16,9 @@
 
 mod fault;
 mod laws;
+mod needed_rows;
 mod notice;
 mod overlap;
-mod passing;
 mod slimming;
 
 pub use fault::SlimFault;

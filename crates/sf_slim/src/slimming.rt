@@ -10,8 +10,8 @@ ghost use Rattle.sf_slim.specs.Answers.{IsFirstSlimFault, IsSlimmed};
 ghost use Rattle.sf_slim.specs.Pass as pass;
 
 use crate::fault::SlimFault;
+use crate::needed_rows::{empty_function, has_row, keep_function};
 use crate::overlap::check_overlap;
-use crate::passing::{empty_function, has_row, keep_function};
 use sf_base::NoMemory;
 use sf_decode::View;
 use sf_functions::count_rows;

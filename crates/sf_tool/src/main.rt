@@ -10,7 +10,7 @@ ghost use Rattle.sf_run.specs.Ends.{RunEnds, SomeRunEnds, TurnedAway, TurnedAway
 ghost use Rattle.sf_run.specs.Lines.{Says, line, memory_line, usage_line};
 
 use sf_base::{Files, HostFiles, HostSink, Sink};
-use sf_run::{Status, run, say};
+use sf_run::{Status, print_line, run};
 use std::fs::File;
 use std::io::Write;
 use std::os::fd::AsFd;
@@ -78,7 +78,7 @@ fn out_of_memory<E: Sink>(err: &mut E) -> Status
     ensures status { result ≡ Status.Memory }
     ensures says { Says (E.seen err.old) (E.seen err.new) memory_line }
 {
-    say(err, "memory");
+    print_line(err, "memory");
     Status::Memory
 }
 
@@ -87,7 +87,7 @@ fn not_held<E: Sink>(err: &mut E) -> Status
     ensures status { result ≡ Status.Read }
     ensures says { Says (E.seen err.old) (E.seen err.new) (line (codes "read /dev/null")) }
 {
-    say(err, "read /dev/null");
+    print_line(err, "read /dev/null");
     Status::Read
 }
 

@@ -12,19 +12,19 @@ use Rattle.sf_model.specs.declared.machine.Arch.{Arch}
 use Rattle.sf_model.specs.declared.rows.Row.{Row}
 use Rattle.sf_model.specs.Function.{RowsRise}
 use Rattle.sf_model.specs.Lookup.{row_at}
-use Rattle.sf_verify.specs.declared.dwarf.Dwarf.{Dwarf}
-use Rattle.sf_verify.specs.declared.dwarf.Known.{Known}
-use Rattle.sf_asm.specs.declared.said.Said.{Said}
+use Rattle.sf_verify.specs.declared.dwarf_cursor.DwarfCursor.{DwarfCursor}
+use Rattle.sf_verify.specs.declared.dwarf_cursor.ContentUntil.{ContentUntil}
+use Rattle.sf_asm.specs.declared.keyed_content.KeyedContent.{KeyedContent}
 use Rattle.sf_verify.specs.declared.sweep.Difference.{Difference}
 use Rattle.sf_verify.specs.Agreement.{Agree, RecoverSameFrame, content_said, is_plain, is_plain_shape}
 use Rattle.sf_verify.specs.Asking.{IsKnownUpTo, IsReady, IsSame, Knows}
 use Rattle.sf_verify.specs.Comparing.{Compares, edge, edge_of, func_says}
-use Rattle.sf_asm.specs.Said.{Answers, with_key}
+use Rattle.sf_asm.specs.ContentAt.{Answers, with_key}
 use Rattle.sf_verify.proofs.Holding.{plain_says}
 use Rattle.sf_verify.proofs.Rows.{no_row_at_all, no_row_before, row_at_place}
 
 -- ---- asked further on
-pub later : (d : Dwarf) (pc more : ℕ) → IsReady d pc → pc ≤ more → IsReady d more
+pub later : (d : DwarfCursor) (pc more : ℕ) → IsReady d pc → pc ≤ more → IsReady d more
 later d pc more h le = record {
   holders = h.holders;
   held = h.held;
@@ -32,15 +32,15 @@ later d pc more h le = record {
   omitted_passed = λ i s before lt. let ends = h.omitted_passed i s before lt in omega (arith, ends, le);
 }
 
-pub same_again : (a b c : Dwarf) → IsSame a b → IsSame b c → IsSame a c
+pub same_again : (a b c : DwarfCursor) → IsSame a b → IsSame b c → IsSame a c
 same_again a b c h g = record { arch = g.arch ∙ h.arch; kept = g.kept ∙ h.kept; omitted = g.omitted ∙ h.omitted; says = g.says ∙ h.says }
 
-pub same_self : (a : Dwarf) → IsSame a a
+pub same_self : (a : DwarfCursor) → IsSame a a
 same_self a = record { arch = refl; kept = refl; omitted = refl; says = refl }
 
 -- ---- one run of addresses
 -- what says the same agrees
-pub agree_self : (said : Option Said) → Agree said said
+pub agree_self : (said : Option KeyedContent) → Agree said said
 agree_self None = tt
 agree_self (Some said) = λ regs memory. refl
 
@@ -84,20 +84,20 @@ differ_here section dwarf from end pc ours theirs le lt h ours_is theirs_is diff
 }
 
 -- nothing is known there
-pub nothing_there : (said : Said) (dwarf : Answers) (from end pc : ℕ) → from ≤ pc → pc < end → Compares (λ p. Some said) dwarf from pc None → dwarf pc ≡ None
+pub nothing_there : (said : KeyedContent) (dwarf : Answers) (from end pc : ℕ) → from ≤ pc → pc < end → Compares (λ p. Some said) dwarf from pc None → dwarf pc ≡ None
     → Compares (λ p. Some said) dwarf from end (Some (record { pc = pc; section = said.content; dwarf = None }))
 nothing_there said dwarf from end pc le lt h none =
     differ_here (λ p. Some said) dwarf from end pc said.content None le lt h refl (ap content_said none) (λ agree. subst (Agree (Some said)) none agree)
 
 -- something else is known there
-pub other_there : (arch : Arch) (said : Said) (known : Known) (dwarf : Answers) (from end pc : ℕ) → from ≤ pc → pc < end → Compares (λ p. Some said) dwarf from pc None → IsKnownUpTo arch dwarf pc known → (RecoverSameFrame said known.said → ⊥)
+pub other_there : (arch : Arch) (said : KeyedContent) (known : ContentUntil) (dwarf : Answers) (from end pc : ℕ) → from ≤ pc → pc < end → Compares (λ p. Some said) dwarf from pc None → IsKnownUpTo arch dwarf pc known → (RecoverSameFrame said known.said → ⊥)
     → Compares (λ p. Some said) dwarf from end (Some (record { pc = pc; section = said.content; dwarf = Some known.said.content }))
 other_there arch said known dwarf from end pc le lt h there differ =
     let here : dwarf pc ≡ Some known.said = there.steady pc (omega arith) there.from_here in
     differ_here (λ p. Some said) dwarf from end pc said.content (Some known.said.content) le lt h refl (ap content_said here) (λ agree. differ (subst (Agree (Some said)) here agree))
 
 -- what is known there recovers alike, up to where it goes
-pub alike_on : (arch : Arch) (said : Said) (known : Known) (dwarf : Answers) (from pc end : ℕ) → end ≤ known.last + 1 → Compares (λ p. Some said) dwarf from pc None → IsKnownUpTo arch dwarf pc known → RecoverSameFrame said known.said → Compares (λ p. Some said) dwarf from end None
+pub alike_on : (arch : Arch) (said : KeyedContent) (known : ContentUntil) (dwarf : Answers) (from pc end : ℕ) → end ≤ known.last + 1 → Compares (λ p. Some said) dwarf from pc None → IsKnownUpTo arch dwarf pc known → RecoverSameFrame said known.said → Compares (λ p. Some said) dwarf from end None
 alike_on arch said known dwarf from pc end short h there alike = λ p low high. elim (cases_lt p pc) [
   | inl before ↦ h p low before
   | inr not_before ↦ subst (Agree (Some said)) (sym (there.steady p (omega (arith, not_before)) (omega (arith, high, short)))) alike
@@ -188,16 +188,16 @@ row_says f place from end row plain rise lt is from_is end_is some = λ pc low h
     sym (plain_says f pc plain ∙ ap (λ (o : Option Row). option_map (with_key f.key) (option_map (λ (r : Row). r.content) o)) found ∙ ap (λ (r : Row). Some (with_key f.key r.content)) (sym is))
 
 -- ---- results
-pub known_some : (arch : Arch) (answers : Answers) (pc : ℕ) (result : Option Known) (known : Known) → result ≡ Some known → Knows arch answers pc result → IsKnownUpTo arch answers pc known
+pub known_some : (arch : Arch) (answers : Answers) (pc : ℕ) (result : Option ContentUntil) (known : ContentUntil) → result ≡ Some known → Knows arch answers pc result → IsKnownUpTo arch answers pc known
 known_some arch answers pc result known is h = subst (Knows arch answers pc) is h
 
 -- the run of a row, as the function says it
-run_of : (f : Func) (said : Said) (asked dwarf : Answers) (place from end first next : ℕ) (row : Row) (d : Option Difference) → asked ≡ dwarf → f.shape ≡ Plain → RowsRise f.rows → place < length f.rows → row ≡ get_or f.rows place row
+run_of : (f : Func) (said : KeyedContent) (asked dwarf : Answers) (place from end first next : ℕ) (row : Row) (d : Option Difference) → asked ≡ dwarf → f.shape ≡ Plain → RowsRise f.rows → place < length f.rows → row ≡ get_or f.rows place row
     → from ≡ edge f.rows place f.size → end ≡ edge f.rows (place + 1) f.size → from < end → first ≡ f.start + from → next ≡ f.start + end → said ≡ with_key f.key row.content
     → Compares (λ pc. Some said) asked first next d → Compares (func_says f) dwarf (f.start + from) (f.start + end) d
 run_of f said asked dwarf place from end first next row d same plain rise lt is from_is end_is some first_is next_is said_is h =
     compare_alike (λ pc. Some said) (func_says f) dwarf (f.start + from) (f.start + end) d
-    (λ pc low high. ap (λ (s : Said). Some s) said_is ∙ row_says f place from end row plain rise lt is from_is end_is some pc low high)
+    (λ pc low high. ap (λ (s : KeyedContent). Some s) said_is ∙ row_says f place from end row plain rise lt is from_is end_is some pc low high)
     (subst (λ (n : ℕ). Compares (λ pc. Some said) dwarf (f.start + from) n d) next_is
     (subst (λ (m : ℕ). Compares (λ pc. Some said) dwarf m next d) first_is
     (subst (λ (q : Answers). Compares (λ pc. Some said) q first next d) same h)))
@@ -207,7 +207,7 @@ pub row_in_place : (rows : List Row) (place : ℕ) → place < length rows → (
 row_in_place [] place lt = absurd (omega (arith, lt))
 row_in_place (r ∷ rows) place lt = (get_or (r ∷ rows) place r, get_or_default (r ∷ rows) place r (get_or (r ∷ rows) place r) lt)
 
-pub run_of_row : (f : Func) (rows : List Row) (said : Said) (asked dwarf : Answers) (place from end first next : ℕ) (d : Option Difference) → asked ≡ dwarf → f.shape ≡ Plain → RowsRise f.rows → rows ≡ f.rows → place < length rows
+pub run_of_row : (f : Func) (rows : List Row) (said : KeyedContent) (asked dwarf : Answers) (place from end first next : ℕ) (d : Option Difference) → asked ≡ dwarf → f.shape ≡ Plain → RowsRise f.rows → rows ≡ f.rows → place < length rows
     → from ≡ edge rows place f.size → end ≡ edge rows (place + 1) f.size → from < end → first ≡ f.start + from → next ≡ f.start + end → ((row : Row) → said ≡ with_key f.key (get_or rows place row).content)
     → Compares (λ pc. Some said) asked first next d → Compares (func_says f) dwarf (f.start + from) (f.start + end) d
 run_of_row f rows said asked dwarf place from end first next d same plain rise rows_are lt from_is end_is some first_is next_is said_is h =

@@ -19,9 +19,9 @@ use Rattle.sf_express.proofs.Writable.{ContentFits, content_of-fits}
 use Rattle.sf_asm.specs.Faithful.{holds_address}
 use Rattle.sf_asm.specs.Functions.{Function}
 use Rattle.sf_asm.specs.Kept.{says_of}
-use Rattle.sf_asm.specs.Said.{dwarf_at, has_form, said_in, with_key}
+use Rattle.sf_asm.specs.ContentAt.{dwarf_at, has_form, said_in, with_key}
 use Rattle.sf_verify.specs.Agreement.{IsFitting}
-use Rattle.sf_verify.specs.Said.{by_row, section_at, unless_in_blocks}
+use Rattle.sf_verify.specs.SectionContent.{by_row, section_at, unless_in_blocks}
 use Rattle.sf_verify.proofs.Signs.{signs_fit}
 
 -- what is found has what all have

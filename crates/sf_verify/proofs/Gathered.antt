@@ -36,7 +36,7 @@ use Rattle.sf_asm.proofs.Holding.{IsFine, fine, has_form_if, is_within, one_hold
 use Rattle.sf_asm.proofs.Members.{all_members, in_map, placed}
 use Rattle.sf_verify.specs.Asking.{AreHolders, IsRowed, RowsBegin, answers_of, by_holder}
 use Rattle.sf_verify.specs.Comparing.{func_says}
-use Rattle.sf_asm.specs.Said.{Answers, dwarf_at, form_content, said_in, with_key}
+use Rattle.sf_asm.specs.ContentAt.{Answers, dwarf_at, form_content, said_in, with_key}
 use Rattle.sf_verify.proofs.Holding.{plain_says}
 
 -- ---- a kept function

@@ -18,11 +18,11 @@ use Rattle.sf_decode.specs.View.{head_of, rows_left}
 use Rattle.sf_express.specs.declared.pieces.Piece.{Piece}
 use Rattle.sf_express.specs.Pieces.{ArePieces, PiecesSay, said_by}
 use Rattle.sf_asm.specs.Functions.{Function}
-use Rattle.sf_verify.specs.declared.dwarf.Held.{Held}
-use Rattle.sf_asm.specs.Said.{AllFit, Answers, IfFits, form_content, said_in, with_key}
+use Rattle.sf_verify.specs.declared.dwarf_cursor.CurrentFunction.{CurrentFunction}
+use Rattle.sf_asm.specs.ContentAt.{AllFit, Answers, IfFits, form_content, said_in, with_key}
 use Rattle.sf_verify.specs.Asking.{AreHolders, IsHeld, IsKnownUpTo, IsRowed, KeptPassed, OmittedPassed}
 use Rattle.sf_verify.specs.Comparing.{func_read, func_says}
-use Rattle.sf_verify.specs.Said.{by_row}
+use Rattle.sf_verify.specs.SectionContent.{by_row}
 use Rattle.sf_verify.proofs.Rows.{as_pieces, as_pieces_are, as_pieces_fit, content_of_row, pieces_as_rows}
 
 -- ---- what is known
@@ -37,7 +37,7 @@ said_fits arch o found (p ∷ pieces) content before h e =
     at_test true e later = later e
     at_test false e later = before content e
 
-pub known_is : (arch : Arch) (answers : Answers) (h : Held) (pc last : ℕ) (content : Content) → IsHeld arch answers h → h.start ≤ pc → pc < h.start + h.size → pc - h.start ≤ last → last < h.size
+pub known_is : (arch : Arch) (answers : Answers) (h : CurrentFunction) (pc last : ℕ) (content : Content) → IsHeld arch answers h → h.start ≤ pc → pc < h.start + h.size → pc - h.start ≤ last → last < h.size
     → ((o : ℕ) → pc - h.start ≤ o → o ≤ last → said_by o None h.pieces.items ≡ Some (Some content))
     → IsKnownUpTo arch answers pc (record { said = record { content = content; key = h.key }; last = h.start + last })
 known_is arch answers h pc last content held from to low within said = record {
@@ -47,7 +47,7 @@ known_is arch answers h pc last content held from to low within said = record {
   fits = said_fits arch (pc - h.start) None h.pieces.items (Some content) (λ c same. cc) held.fits (said (pc - h.start) (omega arith) low);
 }
 
-pub nothing_known : (arch : Arch) (answers : Answers) (h : Held) (pc : ℕ) → IsHeld arch answers h → h.start ≤ pc → pc < h.start + h.size → said_by (pc - h.start) None h.pieces.items ≡ Some None → answers pc ≡ None
+pub nothing_known : (arch : Arch) (answers : Answers) (h : CurrentFunction) (pc : ℕ) → IsHeld arch answers h → h.start ≤ pc → pc < h.start + h.size → said_by (pc - h.start) None h.pieces.items ≡ Some None → answers pc ≡ None
 nothing_known arch answers h pc held from to said = held.says pc None from to said
 
 -- ---- a kept function
@@ -64,13 +64,13 @@ row_content : (found : Option Row) (content : Option Content) → content_of_row
 row_content None content e = cc
 row_content (Some r) content e = let is : Some r.content ≡ content = cc in is
 
-record IsTaken (h : Held) (f : Func) : Type 0 where
+record IsTaken (h : CurrentFunction) (f : Func) : Type 0 where
   start : h.start ≡ f.start
   size : h.size ≡ f.size
   key : h.key ≡ f.key
   pieces : h.pieces.items ≡ as_pieces f.rows
 
-taken_held : (arch : Arch) (answers : Answers) (h : Held) (f : Func) → IsTaken h f → IsRowed arch f → ((pc : ℕ) → f.start ≤ pc → pc < f.start + f.size → answers pc ≡ func_says f pc) → IsHeld arch answers h
+taken_held : (arch : Arch) (answers : Answers) (h : CurrentFunction) (f : Func) → IsTaken h f → IsRowed arch f → ((pc : ℕ) → f.start ≤ pc → pc < f.start + f.size → answers pc ≡ func_says f pc) → IsHeld arch answers h
 taken_held arch answers h f t rowed holds = record {
   end = rw (t.start, t.size) rowed.end;
   pieces = λ some. rw (t.size, t.pieces) (as_pieces_are f.size f.rows rowed.first rowed.rise rowed.below);
@@ -83,7 +83,7 @@ taken_held arch answers h f t rowed holds = record {
   fits = subst (AllFit arch) (sym t.pieces) (as_pieces_fit arch f.rows rowed.fits);
 }
 
-pub kept_held : (arch : Arch) (answers : Answers) (kept : List Func) (omitted : List Function) (place : ℕ) (f : Func) (h : Held) → AreHolders arch answers kept omitted → place < length kept → f ≡ get_or kept place f
+pub kept_held : (arch : Arch) (answers : Answers) (kept : List Func) (omitted : List Function) (place : ℕ) (f : Func) (h : CurrentFunction) → AreHolders arch answers kept omitted → place < length kept → f ≡ get_or kept place f
     → h.start ≡ f.start → h.size ≡ f.size → h.key ≡ f.key → h.pieces.items ≡ as_pieces f.rows → IsHeld arch answers h
 kept_held arch answers kept omitted place f h holders lt is start size key pieces =
     let taken : IsTaken h f = record { start = start; size = size; key = key; pieces = pieces } in
@@ -106,7 +106,7 @@ kept_alike arch answers kept omitted place d head rows holders lt is same pc fro
     holders.kept_says place d lt pc (omega (arith, from, start)) (omega (arith, to, start, size)) ∙ ap (λ (g : Func). func_says g pc) (read_is f head rows is same)
 
 -- ---- an omitted function
-pub omitted_held : (arch : Arch) (answers : Answers) (kept : List Func) (omitted : List Function) (place : ℕ) (f : Function) (h : Held) → AreHolders arch answers kept omitted → place < length omitted → f ≡ get_or omitted place f → f.start + f.size ≤ 2 ^ 64
+pub omitted_held : (arch : Arch) (answers : Answers) (kept : List Func) (omitted : List Function) (place : ℕ) (f : Function) (h : CurrentFunction) → AreHolders arch answers kept omitted → place < length omitted → f ≡ get_or omitted place f → f.start + f.size ≤ 2 ^ 64
     → h.start ≡ f.start → h.size ≡ f.size → h.key ≡ f.key → ArePieces f.size h.pieces.items → PiecesSay f.size h.pieces.items (form_content f) → AllFit f.arch h.pieces.items → IsHeld arch answers h
 omitted_held arch answers kept omitted place f h holders lt is end start size key pieces say fit = record {
   end = rw (start, size) end;

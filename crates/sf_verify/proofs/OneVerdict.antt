@@ -19,8 +19,8 @@ use Rattle.sf_asm.proofs.Described.{described, from_gathers}
 use Rattle.sf_asm.proofs.OneOrder.{one_order}
 use Rattle.sf_verify.specs.declared.fault.VerifyFault.{VerifyFault}
 use Rattle.sf_verify.specs.Agreement.{DifferFirst, IsVerdict, content_said}
-use Rattle.sf_asm.specs.Said.{dwarf_at}
-use Rattle.sf_verify.specs.Said.{section_at}
+use Rattle.sf_asm.specs.ContentAt.{dwarf_at}
+use Rattle.sf_verify.specs.SectionContent.{section_at}
 use Rattle.sf_verify.specs.Verifying.{Verifies, VerdictUnless, first_verify_fault, section_fault, sized_in}
 
 -- ---- the inputs

@@ -24,7 +24,7 @@ use Rattle.sf_asm.proofs.Finding.{found_alike}
 use Rattle.sf_verify.specs.declared.fault.VerifyFault.TheVariants.{Overlap}
 use Rattle.sf_verify.specs.Comparing.{AreComparable}
 use Rattle.sf_verify.specs.Counting.{StartsRise}
-use Rattle.sf_verify.specs.Said.{by_row, section_at}
+use Rattle.sf_verify.specs.SectionContent.{by_row, section_at}
 use Rattle.sf_verify.specs.Verifying.{section_fault, sized_in}
 use Rattle.sf_asm.proofs.Members.{placed}
 use Rattle.sf_verify.proofs.Gathered.{mapped}

@@ -16,31 +16,31 @@ use Rattle.sf_model.proofs.Unions.{within}
 use Rattle.sf_merge.proofs.SomeResult.{some_order}
 use Rattle.sf_asm.specs.declared.entry.Entry.{Entry}
 use Rattle.sf_asm.specs.declared.fault.GatherFault.{GatherFault}
-use Rattle.sf_asm.specs.declared.said.Said.{Said}
+use Rattle.sf_asm.specs.declared.keyed_content.KeyedContent.{KeyedContent}
 use Rattle.sf_asm.specs.Functions.{Function, Object, functions_of, machine_of}
 use Rattle.sf_asm.specs.Inputs.{all_functions}
 use Rattle.sf_asm.specs.Kept.{entry_of, kept_functions}
 use Rattle.sf_asm.specs.Linking.{Gathers, GathersFrom, functions_fault, start_of, unless_fault}
-use Rattle.sf_asm.specs.Said.{Answers, dwarf_at}
+use Rattle.sf_asm.specs.ContentAt.{Answers, dwarf_at}
 use Rattle.sf_asm.proofs.Accepting.{gathered_can_be}
 use Rattle.sf_functions.proofs.ByStart.{by_key, in_order}
 use Rattle.sf_asm.proofs.Described.{describe, to_gathers}
 use Rattle.sf_asm.proofs.GatheredInputs.{are_read}
 use Rattle.sf_verify.specs.declared.fault.VerifyFault.{VerifyFault}
 use Rattle.sf_verify.specs.Agreement.{Agree, DifferFirst, IsFitting, IsVerdict, agree, content_said, is_missing, is_plain}
-use Rattle.sf_verify.specs.Said.{by_row, section_at}
+use Rattle.sf_verify.specs.SectionContent.{by_row, section_at}
 use Rattle.sf_verify.specs.Verifying.{Verifies, VerdictUnless, first_verify_fault, refused, section_fault, sized_in}
 use Rattle.sf_verify.proofs.Test.{alike, says_agree}
 
 -- ---- at one address they agree or don't
-abbrev Decides : (section dwarf : Option Said) → Type 0
+abbrev Decides : (section dwarf : Option KeyedContent) → Type 0
 Decides section dwarf = Agree section dwarf ⊎ (Agree section dwarf → ⊥)
 
-by_test : (arch : Arch) (s d : Said) → IsFitting arch s → IsFitting arch d → (b : Bool) → agree s d ≡ b → Decides (Some s) (Some d)
+by_test : (arch : Arch) (s d : KeyedContent) → IsFitting arch s → IsFitting arch d → (b : Bool) → agree s d ≡ b → Decides (Some s) (Some d)
 by_test arch s d f g true e = inl (alike s d e)
 by_test arch s d f g false e = inr (λ same. let yes = says_agree arch s d f g same in cc)
 
-decides : (arch : Arch) (section dwarf : Option Said) → IfSome section (IsFitting arch) → IfSome dwarf (IsFitting arch) → Decides section dwarf
+decides : (arch : Arch) (section dwarf : Option KeyedContent) → IfSome section (IsFitting arch) → IfSome dwarf (IsFitting arch) → Decides section dwarf
 decides arch None dwarf f g = inl tt
 decides arch (Some s) None f g = inr (λ same. same)
 decides arch (Some s) (Some d) f g = by_test arch s d f g (agree s d) refl
@@ -79,22 +79,22 @@ none_contains pc (f ∷ functions) le = at_test (contains pc f) refl (none_conta
     at_test true t later = let has = within pc f t in absurd (omega (arith, has.to, le))
     at_test false t later = later
 
-nothing_said : (pc : ℕ) (functions : List Func) → all_ends functions ≤ pc → section_at functions pc ≡ None
+no_content : (pc : ℕ) (functions : List Func) → all_ends functions ≤ pc → section_at functions pc ≡ None
 unfolding section_at found_at
-nothing_said pc functions le = ap (λ (f : Option Func). option_and_then by_row (row_in_first pc f)) (none_contains pc functions le)
+no_content pc functions le = ap (λ (f : Option Func). option_and_then by_row (row_in_first pc f)) (none_contains pc functions le)
 
 agree_on : (functions : List Func) (dwarf : Answers) → AgreeBelow (section_at functions) dwarf (all_ends functions) → (pc : ℕ) → Agree (section_at functions pc) (dwarf pc)
 agree_on functions dwarf below pc = elim (cases_lt pc (all_ends functions)) [
   | inl less ↦ below pc less
-  | inr not_less ↦ subst (λ (s : Option Said). Agree s (dwarf pc)) (sym (nothing_said pc functions (omega (arith, not_less)))) tt
+  | inr not_less ↦ subst (λ (s : Option KeyedContent). Agree s (dwarf pc)) (sym (no_content pc functions (omega (arith, not_less)))) tt
 ]
 
 -- ---- the verdict
 differ_first : (section dwarf : Answers) (d : DifferAt section dwarf) → (ours : Content) × (theirs : Option Content) × DifferFirst section dwarf d.pc ours theirs
 differ_first section dwarf d = at_said (section d.pc) refl
   where
-    at_said : (said : Option Said) → section d.pc ≡ said → (ours : Content) × (theirs : Option Content) × DifferFirst section dwarf d.pc ours theirs
-    at_said None e = absurd (d.differ (subst (λ (s : Option Said). Agree s (dwarf d.pc)) (sym e) tt))
+    at_said : (said : Option KeyedContent) → section d.pc ≡ said → (ours : Content) × (theirs : Option Content) × DifferFirst section dwarf d.pc ours theirs
+    at_said None e = absurd (d.differ (subst (λ (s : Option KeyedContent). Agree s (dwarf d.pc)) (sym e) tt))
     at_said (Some s) e = (s.content, content_said (dwarf d.pc), record { section_says = ap content_said e; dwarf_says = refl; differ = d.differ; before = d.before })
 
 by_difference : (section : List Func) (functions : List Function) → AgreeBelow (section_at section) (dwarf_at functions) (all_ends section) ⊎ DifferAt (section_at section) (dwarf_at functions) → (verdict : Verdict) × IsVerdict section functions verdict

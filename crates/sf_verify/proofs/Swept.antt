@@ -12,13 +12,13 @@ use Rattle.sf_model.specs.declared.rows.Row.{Row}
 use Rattle.sf_model.specs.Lookup.{contains, found_at, offset_in_block, row_at, row_in_first}
 use Rattle.sf_model.proofs.Unions.{within}
 use Rattle.sf_merge.specs.declared.located.Located.{Located}
-use Rattle.sf_asm.specs.declared.said.Said.{Said}
+use Rattle.sf_asm.specs.declared.keyed_content.KeyedContent.{KeyedContent}
 use Rattle.sf_verify.specs.declared.sweep.Difference.{Difference}
 use Rattle.sf_verify.specs.Agreement.{Agree, DifferFirst, is_plain, is_plain_shape}
 use Rattle.sf_merge.specs.Located.{located_functions}
 use Rattle.sf_verify.specs.Comparing.{Compares, ComparesAll, DifferWithin, func_says}
-use Rattle.sf_asm.specs.Said.{Answers}
-use Rattle.sf_verify.specs.Said.{by_row, section_at}
+use Rattle.sf_asm.specs.ContentAt.{Answers}
+use Rattle.sf_verify.specs.SectionContent.{by_row, section_at}
 use Rattle.sf_verify.proofs.Compared.{compare_alike}
 
 -- they agree at each address of a function
@@ -71,7 +71,7 @@ unfolding section_at found_at
 says_nothing functions pc e = ap (λ (f : Option Func). option_and_then by_row (row_in_first pc f)) e
 
 -- where they agree over each of the first functions, they agree below the start of the next, and everywhere where there is none
-agree_if : (section : Option Said) (dwarf : Option Said) → section ≡ None → Agree section dwarf
+agree_if : (section : Option KeyedContent) (dwarf : Option KeyedContent) → section ≡ None → Agree section dwarf
 agree_if section dwarf e = subst (λ x. Agree x dwarf) (sym e) tt
 
 pub agree_below : (functions : List Located) (dwarf : Answers) (place end : ℕ) → ((i : ℕ) (d : Located) → i < place → i < length functions → AgreeOver (section_at (located_functions functions)) dwarf (get_or functions i d).func)

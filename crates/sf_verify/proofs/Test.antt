@@ -14,7 +14,7 @@ use Rattle.sf_express.specs.Expressed.{same_content}
 use Rattle.sf_express.proofs.Same.{content_same}
 use Rattle.sf_express.proofs.Changes.{content_itself}
 use Rattle.sf_verify.specs.Agreement.{IsFitting, RecoverSameFrame, agree, same_key}
-use Rattle.sf_asm.specs.declared.said.Said.{Said}
+use Rattle.sf_asm.specs.declared.keyed_content.KeyedContent.{KeyedContent}
 
 key_same : (j k : Key) → same_key j k ≡ true → j ≡ k
 key_same A A e = refl
@@ -35,7 +35,7 @@ one_content : (c : Content) (j k : Key) (regs : Regs) (memory : List Region) →
 unfolding recovery
 one_content c j k regs memory e = rw e refl
 
-pub alike : (s d : Said) → agree s d ≡ true → RecoverSameFrame s d
+pub alike : (s d : KeyedContent) → agree s d ≡ true → RecoverSameFrame s d
 alike s d e =
     let parts = and_parts (same_content s.content d.content) (not s.content.signed || same_key s.key d.key) e in
     let same = content_same s.content d.content parts.0 in
@@ -50,7 +50,7 @@ tested c d j k same keys = rw (← same, content_itself c) (by_sign c.signed key
     by_sign false keys = refl
 
 -- and it is exact for what fits
-pub says_agree : (arch : Arch) (s d : Said) → IsFitting arch s → IsFitting arch d → RecoverSameFrame s d → agree s d ≡ true
+pub says_agree : (arch : Arch) (s d : KeyedContent) → IsFitting arch s → IsFitting arch d → RecoverSameFrame s d → agree s d ≡ true
 says_agree arch s d f g e =
     let same = same_contents arch s.content d.content s.key d.key f.in_range g.in_range f.fits g.fits (e deciding_registers []) in
     tested s.content d.content s.key d.key same.0 same.1

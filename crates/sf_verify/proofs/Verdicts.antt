@@ -34,8 +34,8 @@ use Rattle.sf_verify.specs.Asking.{AreHolders, answers_of}
 use Rattle.sf_verify.specs.Comparing.{AreComparable}
 use Rattle.sf_verify.specs.Concluding.{IsVerdictBy}
 use Rattle.sf_verify.specs.Counting.{KeptRise, StartsRise, represents_kept, is_absent}
-use Rattle.sf_asm.specs.Said.{Answers, dwarf_at}
-use Rattle.sf_verify.specs.Said.{section_at}
+use Rattle.sf_asm.specs.ContentAt.{Answers, dwarf_at}
+use Rattle.sf_verify.specs.SectionContent.{section_at}
 use Rattle.sf_verify.specs.Verifying.{IsFirstVerifyFault, Verifies, VerdictUnless, refused, section_fault, sized_in}
 use Rattle.sf_verify.proofs.Counted.{missing_are}
 use Rattle.sf_verify.proofs.Gathered.{expressed_of, holders, holders_of_both, kept_are, same_answers}

@@ -19,23 +19,23 @@ use Rattle.sf_model.specs.Recovery.{recovery}
 use Rattle.sf_express.specs.Expressed.{same_content}
 use Rattle.sf_asm.specs.Functions.{Function}
 use Rattle.sf_asm.specs.Kept.{kept_functions}
-use Rattle.sf_asm.specs.declared.said.Said.{Said}
-use Rattle.sf_asm.specs.Said.{Answers, dwarf_at}
-use Rattle.sf_verify.specs.Said.{section_at}
+use Rattle.sf_asm.specs.declared.keyed_content.KeyedContent.{KeyedContent}
+use Rattle.sf_asm.specs.ContentAt.{Answers, dwarf_at}
+use Rattle.sf_verify.specs.SectionContent.{section_at}
 
 -- two contents with their keys recover the same caller's frame, for all registers and memory
-abbrev pub RecoverSameFrame : Said → Said → Type 0
+abbrev pub RecoverSameFrame : KeyedContent → KeyedContent → Type 0
 RecoverSameFrame s d = (regs : Regs) (memory : List Region) → recovery s.content s.key regs memory ≡ recovery d.content d.key regs memory
 
 -- if the section has a content, the call frame information has one that recovers the same
-abbrev pub Agree : (section dwarf : Option Said) → Type 0
+abbrev pub Agree : (section dwarf : Option KeyedContent) → Type 0
 Agree None dwarf = ⊤
 Agree (Some s) None = ⊥
 Agree (Some s) (Some d) = RecoverSameFrame s d
 
 -- the content without its key
-abbrev pub content_said : Option Said → Option Content
-content_said said = option_map (λ (s : Said). s.content) said
+abbrev pub content_said : Option KeyedContent → Option Content
+content_said said = option_map (λ (s : KeyedContent). s.content) said
 
 -- this is the least address at which section and call frame information don't agree, and these are their contents there
 pub record DifferFirst (section dwarf : Answers) (pc : ℕ) (ours : Content) (theirs : Option Content) : Type 0 where
@@ -85,10 +85,10 @@ same_key B A = false
 same_key B B = true
 
 -- the contents are equal, and also the keys if the contents are signed
-abbrev pub agree : Said → Said → Bool
+abbrev pub agree : KeyedContent → KeyedContent → Bool
 agree s d = same_content s.content d.content && (not s.content.signed || same_key s.key d.key)
 
 -- the content fits the machine, and its offsets have 32 signed bits
-pub record IsFitting (arch : Arch) (said : Said) : Type 0 where
+pub record IsFitting (arch : Arch) (said : KeyedContent) : Type 0 where
   pub fits : IsTrue (content_fits arch said.content)
   pub in_range : OffsetsInRange said.content

@@ -14,17 +14,17 @@ use Rattle.sf_write.specs.Stored.{stored_in}
 use Rattle.sf_express.specs.Pieces.{ArePieces, said_by}
 use Rattle.sf_asm.specs.Faithful.{holds_address}
 use Rattle.sf_asm.specs.Functions.{Function}
-use Rattle.sf_asm.specs.declared.gathering.Together.{Together}
-use Rattle.sf_asm.specs.declared.said.Said.{Said}
-use Rattle.sf_asm.specs.Said.{AllFit, Answers, said_in, with_key}
-use Rattle.sf_verify.specs.declared.dwarf.Dwarf.{Dwarf}
-use Rattle.sf_verify.specs.declared.dwarf.Held.{Held}
-use Rattle.sf_verify.specs.declared.dwarf.Known.{Known}
+use Rattle.sf_asm.specs.declared.entries.InputFunctions.{InputFunctions}
+use Rattle.sf_asm.specs.declared.keyed_content.KeyedContent.{KeyedContent}
+use Rattle.sf_asm.specs.ContentAt.{AllFit, Answers, said_in, with_key}
+use Rattle.sf_verify.specs.declared.dwarf_cursor.DwarfCursor.{DwarfCursor}
+use Rattle.sf_verify.specs.declared.dwarf_cursor.CurrentFunction.{CurrentFunction}
+use Rattle.sf_verify.specs.declared.dwarf_cursor.ContentUntil.{ContentUntil}
 use Rattle.sf_verify.specs.Comparing.{func_says}
 
 -- ---- the contents by both lists
 -- the content at an address by the kept function that contains it, or else by the omitted one
-abbrev pub by_holder : (pc : ℕ) → (kept : Option Func) → (omitted : Option Function) → Option Said
+abbrev pub by_holder : (pc : ℕ) → (kept : Option Func) → (omitted : Option Function) → Option KeyedContent
 by_holder pc (Some f) omitted = func_says f pc
 by_holder pc None omitted = option_and_then (said_in pc) omitted
 
@@ -33,11 +33,11 @@ unfoldable pub answers_of : (kept : List Func) → (omitted : List Function) →
 answers_of kept omitted pc = by_holder pc (find (contains pc) kept) (find (holds_address pc) omitted)
 
 -- the kept functions of all inputs, with their rows
-abbrev pub kept_in : Together → List Func
-kept_in together = map (stored_in together.rows) together.kept
+abbrev pub kept_in : InputFunctions → List Func
+kept_in functions = map (stored_in functions.rows) functions.kept
 
 -- the content at each address, by the lists that are held
-abbrev pub says : Dwarf → Answers
+abbrev pub says : DwarfCursor → Answers
 says d = answers_of d.kept d.omitted.now.functions
 
 -- the first row begins at 0
@@ -68,7 +68,7 @@ pub record AreHolders (arch : Arch) (answers : Answers) (kept : List Func) (omit
 
 -- ---- the function that was found last
 -- the function's pieces have at each of its addresses the content that is there
-pub record IsHeld (arch : Arch) (answers : Answers) (h : Held) : Type 0 where
+pub record IsHeld (arch : Arch) (answers : Answers) (h : CurrentFunction) : Type 0 where
   pub end : h.start + h.size ≤ 2 ^ 64
   pub pieces : 0 < h.size → ArePieces h.size h.pieces.items
   pub says : (pc : ℕ) (content : Option Content) → h.start ≤ pc → pc < h.start + h.size → said_by (pc - h.start) None h.pieces.items ≡ Some content
@@ -84,41 +84,41 @@ abbrev pub OmittedPassed : List Function → (next pc : ℕ) → Type 0
 OmittedPassed omitted next pc = (i : ℕ) (d : Function) → i < next → i < length omitted → (get_or omitted i d).start + (get_or omitted i d).size ≤ pc
 
 -- the content at each address from this one on can be found
-pub record IsReady (d : Dwarf) (pc : ℕ) : Type 0 where
+pub record IsReady (d : DwarfCursor) (pc : ℕ) : Type 0 where
   pub holders : AreHolders d.arch (says d) d.kept d.omitted.now.functions
   pub held : IsHeld d.arch (says d) d.held
   pub kept_passed : KeptPassed d.kept d.next_kept pc
   pub omitted_passed : OmittedPassed d.omitted.now.functions d.next_omitted pc
 
 -- both have the same lists, machine and contents
-pub record IsSame (d e : Dwarf) : Type 0 where
+pub record IsSame (d e : DwarfCursor) : Type 0 where
   pub arch : e.arch ≡ d.arch
   pub kept : e.kept ≡ d.kept
   pub omitted : e.omitted.now ≡ d.omitted.now
   pub says : says e ≡ says d
 
 -- the function that is held contains the address, or no kept function does
-abbrev pub FindsKept : Dwarf → (pc : ℕ) → Bool → Type 0
+abbrev pub FindsKept : DwarfCursor → (pc : ℕ) → Bool → Type 0
 FindsKept d pc true = (d.held.start ≤ pc) × (pc < d.held.start + d.held.size)
 FindsKept d pc false = (i : ℕ) (f : Func) → i < length d.kept → (get_or d.kept i f).start ≤ pc → pc < (get_or d.kept i f).start + (get_or d.kept i f).size → ⊥
 
 -- the function that is held contains the address, or no omitted function does
-abbrev pub FindsOmitted : Dwarf → (pc : ℕ) → Bool → Type 0
+abbrev pub FindsOmitted : DwarfCursor → (pc : ℕ) → Bool → Type 0
 FindsOmitted d pc true = (d.held.start ≤ pc) × (pc < d.held.start + d.held.size)
 FindsOmitted d pc false = (i : ℕ) (f : Function) → i < length d.omitted.now.functions → (get_or d.omitted.now.functions i f).start ≤ pc → pc < (get_or d.omitted.now.functions i f).start + (get_or d.omitted.now.functions i f).size → ⊥
 
 -- the function that is held contains the address, or there is no content
-abbrev pub Finds : Dwarf → (pc : ℕ) → Bool → Type 0
+abbrev pub Finds : DwarfCursor → (pc : ℕ) → Bool → Type 0
 Finds d pc true = (d.held.start ≤ pc) × (pc < d.held.start + d.held.size)
 Finds d pc false = says d pc ≡ None
 
 -- the content that is known at an address is the content there, and up to the last address to which it is known
-pub record IsKnownUpTo (arch : Arch) (answers : Answers) (pc : ℕ) (known : Known) : Type 0 where
+pub record IsKnownUpTo (arch : Arch) (answers : Answers) (pc : ℕ) (known : ContentUntil) : Type 0 where
   pub from_here : pc ≤ known.last
   pub steady : (p : ℕ) → pc ≤ p → p ≤ known.last → answers p ≡ Some known.said
   pub fits : IsTrue (content_fits arch known.said.content)
 
 -- the content at an address is known, and up to which address, or there is none
-abbrev pub Knows : Arch → Answers → (pc : ℕ) → Option Known → Type 0
+abbrev pub Knows : Arch → Answers → (pc : ℕ) → Option ContentUntil → Type 0
 Knows arch answers pc None = answers pc ≡ None
 Knows arch answers pc (Some known) = IsKnownUpTo arch answers pc known

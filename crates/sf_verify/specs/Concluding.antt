@@ -6,8 +6,8 @@ use Rattle.sf_model.specs.declared.verdict.Verdict.{Verdict}
 use Rattle.sf_model.specs.declared.verdict.Verdict.TheVariants.{Agrees, Differs}
 use Rattle.sf_verify.specs.Agreement.{Agree, DifferFirst, is_plain}
 use Rattle.sf_verify.specs.Counting.{is_absent}
-use Rattle.sf_asm.specs.Said.{Answers}
-use Rattle.sf_verify.specs.Said.{section_at}
+use Rattle.sf_asm.specs.ContentAt.{Answers}
+use Rattle.sf_verify.specs.SectionContent.{section_at}
 
 -- the section agrees with these contents at every address, and these are the numbers of its plain functions, of the kept functions
 -- that it lacks, and of its functions of repeated blocks

@@ -1,4 +1,4 @@
-pub mod Said
+pub mod SectionContent
 pub mod Agreement
 pub mod Verifying
 pub mod Comparing

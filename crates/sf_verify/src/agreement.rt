@@ -6,7 +6,7 @@ ghost use Rattle.sf_model.specs.Content.{OffsetsInRange, PointerInRange, ReturnI
 ghost use Rattle.sf_verify.specs.Agreement as spec;
 ghost use Rattle.sf_verify.specs.Agreement.{RecoverSameFrame};
 
-use sf_asm::Said;
+use sf_asm::KeyedContent;
 use sf_express::is_same;
 use sf_model::{Arch, Content, Key, Ra};
 
@@ -29,7 +29,7 @@ fn same_key(ours: Key, theirs: Key) -> bool
 
 /// Returns whether the contents are the same, and also the keys if the return address is signed.
 #[inline(always)]
-fn agree(ours: Said, theirs: Said) -> bool
+fn agree(ours: KeyedContent, theirs: KeyedContent) -> bool
     ensures { result ≡ spec.agree ours theirs }
 {
     is_same(ours.content, theirs.content)
@@ -76,7 +76,7 @@ fn offsets_in_range(content: &Content)
 }
 
 /// Returns whether two contents with their keys recover the same caller's frame, for all registers and memory.
-pub fn recover_alike(arch: Arch, ours: Said, theirs: Said) -> bool
+pub fn recover_alike(arch: Arch, ours: KeyedContent, theirs: KeyedContent) -> bool
     requires ours { IsTrue (content_fits arch ours.content) }
     requires theirs { IsTrue (content_fits arch theirs.content) }
     ensures alike { IsTrue result → RecoverSameFrame ours theirs }

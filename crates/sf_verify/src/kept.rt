@@ -6,7 +6,7 @@ ghost use Rattle.sf_decode.specs.View.{head_of, rows_left};
 ghost use Rattle.sf_write.specs.Stored.{IsStored};
 ghost use Rattle.sf_verify.specs.Asking.{kept_in};
 
-use sf_asm::Together;
+use sf_asm::InputFunctions;
 use sf_decode::RowIter;
 use sf_model::FuncHead;
 use sf_write::StoredList;
@@ -16,7 +16,7 @@ use std::marker::Model;
 /// they are stored when they are asked for.
 #[derive(Drop)]
 pub struct Kept<'a> {
-    together: &'a Together,
+    functions: &'a InputFunctions,
 }
 
 impl<'a> Model for Kept<'a> {
@@ -26,18 +26,18 @@ impl<'a> Model for Kept<'a> {
 
     ghost Value = { List function };
 
-    ghost view = { λ k. map (stored_in k.together.now.rows) k.together.now.kept };
+    ghost view = { λ k. map (stored_in k.functions.now.rows) k.functions.now.kept };
 
-    ghost invariant = { λ k. All (IsStored k.together.now.rows) k.together.now.kept };
+    ghost invariant = { λ k. All (IsStored k.functions.now.rows) k.functions.now.kept };
 }
 
 impl<'a> Kept<'a> {
     /// Returns the kept functions of all inputs.
-    pub fn new(together: &'a Together) -> Kept<'a>
-        requires { All (IsStored together.now.rows) together.now.kept }
-        ensures { result ≡ kept_in together.now }
+    pub fn new(functions: &'a InputFunctions) -> Kept<'a>
+        requires { All (IsStored functions.now.rows) functions.now.kept }
+        ensures { result ≡ kept_in functions.now }
     {
-        Kept { together }
+        Kept { functions }
     }
 
     /// Returns how many functions there are.
@@ -45,7 +45,7 @@ impl<'a> Kept<'a> {
     pub fn len(&self) -> usize
         ensures { result ≡ length self.now }
     {
-        self.together.kept.len()
+        self.functions.kept.len()
     }
 
     /// Returns the function at a place, without its rows.
@@ -54,7 +54,7 @@ impl<'a> Kept<'a> {
         requires { place < length self.now }
         ensures { (d : function) → result ≡ head_of (get_or self.now place d) }
     {
-        self.together.kept.function(place).head
+        self.functions.kept.function(place).head
     }
 
     /// Returns the rows of the function at a place.
@@ -63,7 +63,7 @@ impl<'a> Kept<'a> {
         requires { place < length self.now }
         ensures { (d : function) → rows_left result ≡ (get_or self.now place d).rows }
     {
-        let Together { rows, kept, .. } = self.together;
+        let InputFunctions { rows, kept, .. } = self.functions;
         rows.rows(kept.function(place))
     }
 
@@ -72,7 +72,7 @@ impl<'a> Kept<'a> {
         requires { place < length self.now }
         ensures { (d : function) → IsTrue result → rows_left rows.now ≡ (get_or self.now place d).rows }
     {
-        let stored = self.together.kept.function(place);
-        self.together.rows.are_spelled(stored, rows)
+        let stored = self.functions.kept.function(place);
+        self.functions.rows.are_spelled(stored, rows)
     }
 }

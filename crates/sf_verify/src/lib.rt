@@ -3,8 +3,9 @@
 //! [`verify`] returns whether a section agrees with 1 to 512 inputs: at each address at which a plain function of
 //! the section has a row, the call frame information has a content that recovers the same for all registers and
 //! any memory. Otherwise it returns the least address at which there is no such content, and both contents there
-//! (`specs/Agreement.antt`, `specs/Verifying.antt`). The content at an address is defined in `specs/Said.antt` of
-//! this crate and of `sf_asm`. Omitted functions have a content, too, at each address whose row SFrame can express.
+//! (`specs/Agreement.antt`, `specs/Verifying.antt`). The content at an address is defined in `specs/SectionContent.antt`,
+//! and in `specs/ContentAt.antt` of `sf_asm`. Omitted functions have a content, too, at each address whose row SFrame can
+//! express.
 //!
 //! [`the_test_of_agreement_is_exact`] and [`verifying_comes_to_one_result`] are laws: two contents recover alike
 //! exactly if they are the same, with the same key if they are signed; and there is at most one verdict.
@@ -17,7 +18,7 @@
 
 mod agreement;
 mod counts;
-mod dwarf;
+mod dwarf_cursor;
 mod fault;
 mod kept;
 mod laws;

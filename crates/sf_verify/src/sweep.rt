@@ -6,11 +6,11 @@ ghost use Rattle.sf_verify.specs.Agreement as spec;
 ghost use Rattle.sf_verify.specs.Asking.{IsReady, IsSame, says};
 ghost use Rattle.sf_merge.specs.Located.{located_functions};
 ghost use Rattle.sf_verify.specs.Comparing.{AreComparable, Compares, ComparesAll, IsComparable, edge_of, func_read, func_says};
-ghost use Rattle.sf_verify.specs.Said.{section_at};
+ghost use Rattle.sf_verify.specs.SectionContent.{section_at};
 
 use crate::agreement::recover_alike;
-use crate::dwarf::Dwarf;
-use sf_asm::Said;
+use crate::dwarf_cursor::DwarfCursor;
+use sf_asm::KeyedContent;
 use sf_base::NoMemory;
 use sf_decode::RowIter;
 use sf_merge::SectionFunctions;
@@ -29,10 +29,10 @@ pub struct Difference {
 /// information is asked for only where its content can change.
 fn compare_run(
     alloc: Global,
-    said: Said,
+    said: KeyedContent,
     from: u64,
     last: u64,
-    dwarf: &mut Dwarf<'_>,
+    dwarf: &mut DwarfCursor<'_>,
 ) -> Result<Option<Difference>, NoMemory>
     requires ready { IsReady dwarf.old from }
     requires order { from ≤ last }
@@ -80,7 +80,7 @@ fn compare_rows(
     alloc: Global,
     head: &FuncHead,
     rows: RowIter<'_>,
-    dwarf: &mut Dwarf<'_>,
+    dwarf: &mut DwarfCursor<'_>,
 ) -> Result<Option<Difference>, NoMemory>
     requires ready { IsReady dwarf.old head.now.start }
     requires plain { IsTrue (spec.is_plain_shape head.now.shape) }
@@ -96,7 +96,7 @@ fn compare_rows(
         next = left.next();
         let end = edge(next, head.size);
         if from < end {
-            let said = Said {
+            let said = KeyedContent {
                 content: row.content,
                 key: head.key,
             };
@@ -118,7 +118,7 @@ fn compare_function(
     alloc: Global,
     head: &FuncHead,
     rows: RowIter<'_>,
-    dwarf: &mut Dwarf<'_>,
+    dwarf: &mut DwarfCursor<'_>,
 ) -> Result<Option<Difference>, NoMemory>
     requires ready { IsReady dwarf.old head.now.start }
     requires plain { IsTrue (spec.is_plain_shape head.now.shape) }
@@ -149,7 +149,7 @@ pub fn is_plain_shape(shape: Shape) -> bool
 pub fn compare(
     alloc: Global,
     functions: &SectionFunctions<'_>,
-    dwarf: &mut Dwarf<'_>,
+    dwarf: &mut DwarfCursor<'_>,
 ) -> Result<Option<Difference>, NoMemory>
     requires ready { IsReady dwarf.old 0 }
     requires comparable { AreComparable dwarf.old.arch functions.now }

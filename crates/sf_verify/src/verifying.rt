@@ -13,7 +13,7 @@ ghost use Rattle.sf_verify.specs.FaultShown.{is_returned};
 ghost use Rattle.sf_verify.specs.Verifying.{IsFirstVerifyFault, Verifies, refused};
 
 use crate::counts::{count_missing, count_plain};
-use crate::dwarf::Dwarf;
+use crate::dwarf_cursor::DwarfCursor;
 use crate::fault::VerifyFault;
 use crate::kept::Kept;
 use crate::overlap::shared_address;
@@ -49,17 +49,17 @@ fn verdict_on(
     ordered: &SectionFunctions<'_>,
     gathered: &WithSources<'_>,
 ) -> Result<Verdict, NoMemory>
-    requires machine { gathered.now.together.arch ≡ (table_of view.now).arch }
-    requires comparable { AreComparable gathered.now.together.arch ordered.now }
+    requires machine { gathered.now.functions.arch ≡ (table_of view.now).arch }
+    requires comparable { AreComparable gathered.now.functions.arch ordered.now }
     requires rise { StartsRise ordered.now }
-    requires holders { AreHolders gathered.now.together.arch (answers_of (kept_in gathered.now.together) gathered.now.sources.functions) (kept_in gathered.now.together) gathered.now.sources.functions }
-    requires stored { All (IsStored gathered.now.together.rows) gathered.now.together.kept }
-    requires few { length (kept_in gathered.now.together) ≤ 2 ^ 21 }
-    requires kept { KeptRise (kept_in gathered.now.together) }
-    ensures { IfOk result (IsVerdictBy (table_of view.now).functions (located_functions ordered.now) (kept_in gathered.now.together) (answers_of (kept_in gathered.now.together) gathered.now.sources.functions)) }
+    requires holders { AreHolders gathered.now.functions.arch (answers_of (kept_in gathered.now.functions) gathered.now.sources.functions) (kept_in gathered.now.functions) gathered.now.sources.functions }
+    requires stored { All (IsStored gathered.now.functions.rows) gathered.now.functions.kept }
+    requires few { length (kept_in gathered.now.functions) ≤ 2 ^ 21 }
+    requires kept { KeptRise (kept_in gathered.now.functions) }
+    ensures { IfOk result (IsVerdictBy (table_of view.now).functions (located_functions ordered.now) (kept_in gathered.now.functions) (answers_of (kept_in gathered.now.functions) gathered.now.sources.functions)) }
 {
-    let WithSources { together, sources } = gathered;
-    let mut dwarf = Dwarf::new(alloc, together.arch, Kept::new(together), sources);
+    let WithSources { functions, sources } = gathered;
+    let mut dwarf = DwarfCursor::new(alloc, functions.arch, Kept::new(functions), sources);
     if let Some(difference) = compare(alloc, ordered, &mut dwarf)? {
         return Ok(Verdict::Differs {
             pc: difference.pc,
@@ -70,7 +70,7 @@ fn verdict_on(
     let checked = count_plain(view);
     Ok(Verdict::Agrees {
         checked,
-        missing: count_missing(&Kept::new(together), ordered),
+        missing: count_missing(&Kept::new(functions), ordered),
         repeats: view.len() - checked,
     })
 }

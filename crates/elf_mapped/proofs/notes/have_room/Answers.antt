@@ -1,7 +1,7 @@
 use Rattle.std.proofs.Common.{◌≡◌, ◌+◌, ◌≤◌, length, sym, subst, arith}
 use Rattle.elf_read.specs.Linked.{linked_file}
 use Rattle.elf_read.proofs.Each.{each_below-more, each_below-none}
-use Rattle.core_notes.specs.Room.{note_size_below, note_room_check}
+use Rattle.core_notes.specs.TotalSize.{note_size_below, note_room_check}
 use Rattle.core_notes.proofs.Rooms.{note_size_below-more, note_size_below-none, room-holds}
 use Rattle.elf_mapped.specs.Parts.{IsNotePart}
 use Rattle.elf_mapped.proofs.notes.have_room.Goals as goal

@@ -1,7 +1,7 @@
 use Rattle.std.proofs.Common.{◌≡◌, ◌≤◌, Ok, length}
 use Rattle.elf_read.specs.Checking.{each_below}
 use Rattle.elf_read.specs.Linked.{linked_file}
-use Rattle.core_notes.specs.Room.{note_size_below, note_room_check}
+use Rattle.core_notes.specs.TotalSize.{note_size_below, note_room_check}
 use Rattle.elf_mapped.proofs.notes.have_room.Given as goal
 
 -- the segments so far have room

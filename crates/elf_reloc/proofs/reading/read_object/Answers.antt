@@ -1,6 +1,6 @@
 use Rattle.std.proofs.Common.{◌≡◌, ℕ, List, length, Ok, sym, ap, subst, ◌∙◌, arith}
 use Rattle.std.proofs.lemmas.Result.{err_from_is_err_and}
-use Rattle.elf_read.specs.Room.{HasRoom}
+use Rattle.elf_read.specs.TotalSize.{HasRoom}
 use Rattle.elf_place.specs.Relocations.{numbers_of, relocation_sections}
 use Rattle.elf_place.specs.Views.{placed_file, placing}
 use Rattle.elf_reloc.specs.Reading.{rel_check, relocations_in}

@@ -1,6 +1,6 @@
 use Rattle.std.proofs.Common.{ℕ, List, subst}
 use Rattle.elf_groups.specs.Groups.{seen_after}
-use Rattle.elf_groups.specs.Seen.{HasSeen}
+use Rattle.elf_groups.specs.SeenSignatures.{HasSeen}
 use Rattle.elf_groups.proofs.Signatures.{on_ok_more}
 use Rattle.sf_asm.proofs.elf.read_file.Goals as goal
 

@@ -1,5 +1,5 @@
 use Rattle.std.proofs.Common.{ap, subst, sym, ◌∙◌}
-use Rattle.sf_asm.specs.declared.entry.Outcome.{Outcome}
+use Rattle.sf_asm.specs.declared.entry.Expressed.{Expressed}
 use Rattle.sf_asm.specs.Entry.{IsSoundOutcome}
 use Rattle.sf_asm.proofs.Heads.{kept_entry}
 use Rattle.sf_asm.proofs.entries.store.Goals as goal
@@ -7,6 +7,6 @@ use Rattle.sf_asm.proofs.entries.store.Goals as goal
 pub returns-in_ok-stored-in-Kept-clause-stored : goal.returns-in_ok-stored-in-Kept-clause-stored
 returns-in_ok-stored-in-Kept-clause-stored c =
     let pushed = c.in_ok-stored-in-Kept.ensures.pushed in
-    let sound = subst (λ (o : Outcome). IsSoundOutcome c.args.arch c.args.entry.span.start c.args.entry.span.size o) c.in-Kept.is c.requires in
+    let sound = subst (λ (o : Expressed). IsSoundOutcome c.args.arch c.args.entry.span.start c.args.entry.span.size o) c.in-Kept.is c.requires in
     let same = kept_entry c.push_packed.new.self c.args.arch _ c.in-Kept.function c.args.entry.span pushed.1 sound in
-    (pushed.0, same ∙ ap (λ (o : Outcome). record { span = c.args.entry.span; outcome = o }) (sym c.in-Kept.is))
+    (pushed.0, same ∙ ap (λ (o : Expressed). record { span = c.args.entry.span; outcome = o }) (sym c.in-Kept.is))

@@ -10,9 +10,9 @@ pub returns-clause-gathered : goal.returns-clause-gathered
 returns-clause-gathered c = record {
   ordered = c.in_ok-read.read.entries;
   is = c.in_ok-read.ensures.gathered;
-  kept_are = c.in_ok-kept_and_omitted.ensures.kept;
-  writable = rw c.in_ok-kept_and_omitted.ensures.arch (subst (AreWritable c.in_ok-read.read.arch) (sym c.in_ok-kept_and_omitted.ensures.kept) (kept_of_checked c.in_ok-read.read.arch c.in_ok-read.read.entries c.in_ok-read.ensures.sound c.in_ok-read.ensures.checked));
-  omitted_are = c.in_ok-kept_and_omitted.ensures.omitted;
+  kept_are = c.in_ok-part.ensures.kept;
+  writable = rw c.in_ok-part.ensures.arch (subst (AreWritable c.in_ok-read.read.arch) (sym c.in_ok-part.ensures.kept) (kept_of_checked c.in_ok-read.read.arch c.in_ok-read.read.entries c.in_ok-read.ensures.sound c.in_ok-read.ensures.checked));
+  omitted_are = c.in_ok-part.ensures.omitted;
 }
 
 pub returns-in_err-read-clause-answered : goal.returns-in_err-read-clause-answered

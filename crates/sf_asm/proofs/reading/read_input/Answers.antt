@@ -1,7 +1,7 @@
 use Rattle.std.proofs.Common.{sym, subst}
 use Rattle.sf_asm.specs.declared.input.InputBytes.{InputBytes}
 use Rattle.sf_asm.specs.Functions.{bytes_of, form_of, seen_behind}
-use Rattle.elf_groups.specs.Seen.{HasSeen}
+use Rattle.elf_groups.specs.SeenSignatures.{HasSeen}
 use Rattle.elf_groups.proofs.Signatures.{on_ok_more}
 use Rattle.sf_asm.proofs.reading.read_input.Goals as goal
 

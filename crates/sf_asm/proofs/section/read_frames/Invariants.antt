@@ -8,7 +8,7 @@ use Rattle.eh_records.specs.View.{entries, frames_left}
 use Rattle.elf_reloc.specs.declared.fault.RelocFault.{RelocFault}
 use Rattle.elf_reloc.specs.declared.fix.RelocatedField.{RelocatedField}
 use Rattle.sf_asm.specs.Functions.{functions_in}
-use Rattle.sf_asm.specs.Initials.{AreInitial}
+use Rattle.sf_asm.specs.InitialRows.{AreInitial}
 use Rattle.sf_asm.specs.ReadSoFar.{AreNumberedIn, AreSound}
 use Rattle.sf_asm.specs.Views.{overlaid, seen_section, written_by}
 use Rattle.sf_asm.proofs.ReadSoFar.{GoesOn}

@@ -25,7 +25,7 @@ use Rattle.sf_plt.proofs.linking.link_plt_with_sources.Goals.{In-Ok-sort_by_star
 
 -- the kept functions that were gathered
 abbrev kept_in : WithSources → List Func
-kept_in g = map (stored_in g.together.rows) g.together.kept
+kept_in g = map (stored_in g.functions.rows) g.functions.kept
 
 pub returns-in-Err-clause-fault : goal.returns-in-Err-clause-fault
 returns-in-Err-clause-fault c =
@@ -47,25 +47,25 @@ sort_out-requires-clause-omitted c =
 pub sort_out-requires-clause-machine : goal.sort_out-requires-clause-machine
 sort_out-requires-clause-machine c =
     let found = c.in-Ok.gathered in
-    machine_of_lent c.args.before (map object_of c.args.inputs.now) found.together.arch (kept_in found) found.together.omitted.items found.sources.functions c.in-Ok.ensures.gathered c.in-Ok.ensures.machine
+    machine_of_lent c.args.before (map object_of c.args.inputs.now) found.functions.arch (kept_in found) found.functions.omitted.items found.sources.functions c.in-Ok.ensures.gathered c.in-Ok.ensures.machine
 
 pub count_rows-row_count-requires : goal.count_rows-row_count-requires
 count_rows-row_count-requires c =
     let found = c.in-Ok.gathered in
-    few_rows found.together.arch found.together.rows found.together.kept c.in-Ok.ensures.stored c.in-Ok.ensures.gathered.writable
+    few_rows found.functions.arch found.functions.rows found.functions.kept c.in-Ok.ensures.stored c.in-Ok.ensures.gathered.writable
 
 -- the functions that are lent
 abbrev lent : After-len-tables → List Function
 lent c = c.in-Ok.gathered.sources.functions
 
-functions : (c : After-len-tables) → c.len-count.result + c.len.result ≡ length (kept_in c.in-Ok.gathered) + length c.in-Ok.gathered.together.omitted.items
+functions : (c : After-len-tables) → c.len-count.result + c.len.result ≡ length (kept_in c.in-Ok.gathered) + length c.in-Ok.gathered.functions.omitted.items
 functions c =
-    let kept_long : c.len-count.result ≡ length (kept_in c.in-Ok.gathered) = c.len-count.ensures ∙ sym (length-map c.in-Ok.gathered.together.kept (stored_in c.in-Ok.gathered.together.rows)) in
-    let omitted_long : c.len.result ≡ length c.in-Ok.gathered.together.omitted.items = c.len.ensures ∙ c.in-Ok.gathered.together.omitted.ok.0 in
+    let kept_long : c.len-count.result ≡ length (kept_in c.in-Ok.gathered) = c.len-count.ensures ∙ sym (length-map c.in-Ok.gathered.functions.kept (stored_in c.in-Ok.gathered.functions.rows)) in
+    let omitted_long : c.len.result ≡ length c.in-Ok.gathered.functions.omitted.items = c.len.ensures ∙ c.in-Ok.gathered.functions.omitted.ok.0 in
     omega (arith, kept_long, omitted_long)
 
 rows : (c : After-len-tables) → c.count_rows-row_count.result ≡ row_count (kept_in c.in-Ok.gathered)
-rows c = c.count_rows-row_count.ensures ∙ counts c.in-Ok.gathered.together.rows c.in-Ok.gathered.together.kept c.in-Ok.ensures.stored
+rows c = c.count_rows-row_count.ensures ∙ counts c.in-Ok.gathered.functions.rows c.in-Ok.gathered.functions.kept c.in-Ok.ensures.stored
 
 plts : (c : After-len-tables) → c.in-Ok-sort_out.sorted.plts.items ≡ map plt_span (filter is_plt (lent c))
 plts c = c.in-Ok-sort_out.ensures.plts
@@ -74,12 +74,12 @@ tables : (c : After-len-tables) → c.len-tables.result ≡ length (filter is_pl
 tables c = tables_counted c.len-tables.result c.in-Ok-sort_out.sorted.plts.items (lent c) (c.len-tables.ensures ∙ c.in-Ok-sort_out.sorted.plts.ok.0) (plts c)
 
 -- what is written, in order
-ordered : (c : In-Ok-sort_by_start) → Made c.in-Ok.gathered.together.arch c.in-Ok.ensures.gathered.sorted (map (stored_in c.in-Ok-sort_out.sorted.rows) c.sort_by_start.new.functions.items)
+ordered : (c : In-Ok-sort_by_start) → Made c.in-Ok.gathered.functions.arch c.in-Ok.ensures.gathered.sorted (map (stored_in c.in-Ok-sort_out.sorted.rows) c.sort_by_start.new.functions.items)
 ordered c =
     let found = c.in-Ok.gathered in
     let sorted = c.in-Ok-sort_out.sorted in
     let before = (goal.at.In-Ok-sort_by_start c).After-len-tables in
-    made c.args.before (map object_of c.args.inputs.now) found.together.arch (kept_in found) found.together.omitted.items (lent before) c.in-Ok.ensures.gathered (c.len-count.result + c.len.result) c.count_rows-row_count.result c.len-tables.result
+    made c.args.before (map object_of c.args.inputs.now) found.functions.arch (kept_in found) found.functions.omitted.items (lent before) c.in-Ok.ensures.gathered (c.len-count.result + c.len.result) c.count_rows-row_count.result c.len-tables.result
     (functions before) (rows before) (tables before) c.in-Ok-check_tables.field-0 c.in-Ok-check_tables.ensures
     (map (stored_in sorted.rows) sorted.written.items) (map (stored_in sorted.rows) c.sort_by_start.new.functions.items) c.in-Ok-sort_out.ensures.written c.in-Ok-sort_out.ensures.sound
     (in_order sorted.rows sorted.written.items c.sort_by_start.new.functions.items c.in-Ok-sort_by_start.ensures.order)
@@ -88,7 +88,7 @@ pub check_tables-requires : goal.check_tables-requires
 check_tables-requires c =
     let found = c.in-Ok.gathered in
     let before = (goal.at.check_tables-requires c).After-len-tables in
-    let k = counted c.args.before (map object_of c.args.inputs.now) found.together.arch (kept_in found) found.together.omitted.items (lent before) c.in-Ok.ensures.gathered (c.len-count.result + c.len.result) c.count_rows-row_count.result c.len-tables.result
+    let k = counted c.args.before (map object_of c.args.inputs.now) found.functions.arch (kept_in found) found.functions.omitted.items (lent before) c.in-Ok.ensures.gathered (c.len-count.result + c.len.result) c.count_rows-row_count.result c.len-tables.result
     (functions before) (rows before) (tables before) in
     (omega (arith, k.few), omega (arith, k.few_rows), omega (arith, k.few_tables))
 
@@ -96,7 +96,7 @@ pub returns-in-Err-check_tables-clause-fault : goal.returns-in-Err-check_tables-
 returns-in-Err-check_tables-clause-fault c =
     let found = c.in-Ok.gathered in
     let before = (goal.at.returns-in-Err-check_tables-clause-fault c).After-len-tables in
-    over c.args.before (map object_of c.args.inputs.now) c.args.at found.together.arch (kept_in found) found.together.omitted.items (lent before) c.in-Ok.ensures.gathered (c.len-count.result + c.len.result) c.count_rows-row_count.result c.len-tables.result
+    over c.args.before (map object_of c.args.inputs.now) c.args.at found.functions.arch (kept_in found) found.functions.omitted.items (lent before) c.in-Ok.ensures.gathered (c.len-count.result + c.len.result) c.count_rows-row_count.result c.len-tables.result
     (functions before) (rows before) (tables before) c.in-Err-check_tables.fault c.in-Err-check_tables.ensures
 
 pub returns-in-Err-check_tables-clause-answered : goal.returns-in-Err-check_tables-clause-answered
@@ -116,9 +116,9 @@ returns-in-Ok-write_stored-clause-linked c =
     let before = (goal.at.returns-in-Ok-write_stored-clause-linked c).After-len-tables in
     let m = ordered (goal.at.returns-in-Ok-write_stored-clause-linked c).In-Ok-sort_by_start in
     let section = c.in-Ok-write_stored.ensures in
-    let kept_long : c.len-count.result ≡ length (kept_in found) = c.len-count.ensures ∙ sym (length-map found.together.kept (stored_in found.together.rows)) in
+    let kept_long : c.len-count.result ≡ length (kept_in found) = c.len-count.ensures ∙ sym (length-map found.functions.kept (stored_in found.functions.rows)) in
     let omitted : sorted.omitted.items ≡ omitted_of (map entry_of (others_in (lent before))) = c.in-Ok-sort_out.ensures.omitted in
-    plt_linked c.args.before (map object_of c.args.inputs.now) c.args.at c.in-Ok-write_stored.section.items c.len-count.result sorted.omitted.items sorted.plts.items found.together.arch (kept_in found) found.together.omitted.items (lent before) c.in-Ok.ensures.gathered
+    plt_linked c.args.before (map object_of c.args.inputs.now) c.args.at c.in-Ok-write_stored.section.items c.len-count.result sorted.omitted.items sorted.plts.items found.functions.arch (kept_in found) found.functions.omitted.items (lent before) c.in-Ok.ensures.gathered
     c.in-Ok.ensures.machine (map (stored_in sorted.rows) c.sort_by_start.new.functions.items) m.is m.few section.section section.tight section.narrow section.in_reach kept_long omitted (plts before)
 
 pub returns-in-Err-OutOfReach-clause-fault : goal.returns-in-Err-OutOfReach-clause-fault
@@ -129,4 +129,4 @@ returns-in-Err-OutOfReach-clause-fault c =
     let m = ordered (goal.at.returns-in-Err-OutOfReach-clause-fault c).In-Ok-sort_by_start in
     let far : first_out_of_reach c.args.at 0 (written_functions g.sorted) ≡ Some c.in-Err-OutOfReach.start =
     ap (first_out_of_reach c.args.at 0) (sym m.is) ∙ reach_refused c.in-Err-OutOfReach.field-0 c.in-Err-OutOfReach.start _ c.in-Err-OutOfReach.field-0-is c.in-Err-OutOfReach.ensures.fault ∙ ap Some (sym c.in-Err-OutOfReach.start-is) in
-    inr (out_of_reach c.args.before objects c.args.at g.functions g.sorted c.in-Err-OutOfReach.start (ready c.args.before objects found.together.arch (kept_in found) found.together.omitted.items found.sources.functions g) g.by_start m.few far)
+    inr (out_of_reach c.args.before objects c.args.at g.functions g.sorted c.in-Err-OutOfReach.start (ready c.args.before objects found.functions.arch (kept_in found) found.functions.omitted.items found.sources.functions g) g.by_start m.few far)

@@ -20,6 +20,6 @@ returns-in-Err-clause-ends g c =
     let command = words_of c.args.command.now in
     let out = g.O.Sink.seen c.args.out.now in
     let refused = subst (λ (items : List ItemWords). IsLoadingRefusal contents items c.in-Err.refusal) c.requires.loaded.items c.in-Err.ensures.refused in
-    ends_from_tells c.in-Err.refusal c.tell.result command (seen (g.F.Files.seen c.args.files.now) out (g.E.Sink.seen c.args.err.now))
-    (seen (g.F.Files.seen c.load_cores_again.new.files) out (g.E.Sink.seen c.tell.new.err)) c.in-Err.ensures.reads refl c.in-Err.ensures.read c.in-Err.ensures.failed_name
-    (loading_refuses command contents c.in-Err.refusal c.requires.few refused) c.tell.ensures
+    ends_from_tells c.in-Err.refusal c.refuse.result command (seen (g.F.Files.seen c.args.files.now) out (g.E.Sink.seen c.args.err.now))
+    (seen (g.F.Files.seen c.load_cores_again.new.files) out (g.E.Sink.seen c.refuse.new.err)) c.in-Err.ensures.reads refl c.in-Err.ensures.read c.in-Err.ensures.failed_name
+    (loading_refuses command contents c.in-Err.refusal c.requires.few refused) c.refuse.ensures

@@ -31,6 +31,6 @@ returns-in-Err-Refused-clause-ends g c =
     let items = loaded_bytes c.args.loaded.now in
     let refused = c.in-Err-Refused.refusal in
     let comes : ComesAs (Comes command items) refused = subst (UnmadeAs (Comes command items)) c.in-Err-Refused.field-0-is c.in-Err-Refused.ensures.comes in
-    ends_from_tells refused c.tell.result command (seen files out (g.E.Sink.seen c.args.err.now)) (seen files out (g.E.Sink.seen c.tell.new.err)) (no_reads files) refl
+    ends_from_tells refused c.refuse.result command (seen files out (g.E.Sink.seen c.args.err.now)) (seen files out (g.E.Sink.seen c.refuse.new.err)) (no_reads files) refl
     (λ read. absurd (no_read (Comes command items) refused comes read)) (no_name (Comes command items) _ refused comes)
-    (refused_runs command contents items c.requires.loaded.bytes refused comes) c.tell.ensures
+    (refused_runs command contents items c.requires.loaded.bytes refused comes) c.refuse.ensures

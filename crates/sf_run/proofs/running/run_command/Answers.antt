@@ -37,8 +37,8 @@ returns-then-len-gt-ITEM_COUNT-clause-ends g c =
     let many : 512 < counted_items (files_of_command command) = omega (arith, count, c.len.ensures, c.if-len-gt-ITEM_COUNT.true) in
     let files = g.F.Files.seen c.args.files.now in
     let out = g.O.Sink.seen c.args.out.now in
-    ends_from_tells (refusal.Limit Inputs) c.tell.result command (seen files out (g.E.Sink.seen c.args.err.now)) (seen files out (g.E.Sink.seen c.tell.new.err)) (no_reads files) refl
-    (λ read. absurd read) tt (inl (too_many_runs command files.contents many)) c.tell.ensures
+    ends_from_tells (refusal.Limit Inputs) c.refuse.result command (seen files out (g.E.Sink.seen c.args.err.now)) (seen files out (g.E.Sink.seen c.refuse.new.err)) (no_reads files) refl
+    (λ read. absurd read) tt (inl (too_many_runs command files.contents many)) c.refuse.ensures
 
 pub returns-clause-counted : goal.returns-clause-counted
 returns-clause-counted g c many =

@@ -2,7 +2,7 @@ use Rattle.std.proofs.Common.{ℕ, ◌<◌, get_or, length}
 use Rattle.sf_merge.specs.declared.located.Located.{Located}
 use Rattle.sf_verify.specs.Asking.{IsReady, IsSame, says}
 use Rattle.sf_merge.specs.Located.{located_functions}
-use Rattle.sf_verify.specs.Said.{section_at}
+use Rattle.sf_verify.specs.SectionContent.{section_at}
 use Rattle.sf_verify.proofs.Swept.{AgreeOver}
 use Rattle.sf_verify.proofs.sweep.compare.Given as goal
 

@@ -8,8 +8,8 @@ use Rattle.sf_verify.specs.Asking.{answers_of, kept_in, says}
 use Rattle.sf_verify.specs.Counting.{is_absent}
 use Rattle.sf_merge.specs.Located.{located_functions}
 use Rattle.sf_verify.specs.Comparing.{ComparesAll}
-use Rattle.sf_asm.specs.Said.{Answers}
-use Rattle.sf_verify.specs.Said.{section_at}
+use Rattle.sf_asm.specs.ContentAt.{Answers}
+use Rattle.sf_verify.specs.SectionContent.{section_at}
 use Rattle.sf_verify.proofs.Counted.{at_most, rest_are}
 use Rattle.sf_verify.proofs.verifying.verdict_on.Goals as goal
 
@@ -22,7 +22,7 @@ pub returns : goal.returns
 returns c =
     let section = section_at (located_functions c.args.ordered.now) in
     let functions = (table_of c.args.view.now).functions in
-    let answers : says c.new-dwarf.result ≡ answers_of (kept_in c.args.gathered.now.together) c.args.gathered.now.sources.functions = c.new-dwarf.ensures.says ∙ ap (λ (ks : List Func). answers_of ks c.args.gathered.now.sources.functions) c.new.ensures in
+    let answers : says c.new-dwarf.result ≡ answers_of (kept_in c.args.gathered.now.functions) c.args.gathered.now.sources.functions = c.new-dwarf.ensures.says ∙ ap (λ (ks : List Func). answers_of ks c.args.gathered.now.sources.functions) c.new.ensures in
     let none = subst (λ (d : Option Difference). ComparesAll section (says c.new-dwarf.result) d) c.in_default.is c.in_ok-difference.ensures in
     record {
       agree = subst (λ (q : Answers). ComparesAll section q None) answers none;

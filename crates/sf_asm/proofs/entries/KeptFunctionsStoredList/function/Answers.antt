@@ -24,7 +24,7 @@ unreachable-requires c =
     let low : c.args.number < length places = omega (arith, c.requires, kept_len heads places c.self.invariant, ap length c.self.view_is) in
     let there : IsKeptIn heads place = subst (IsKeptIn heads) (sym c.index.ensures) (c.self.invariant c.args.number place low) in
     let is : c.index-2.result.now ≡ head_at heads place = get_or_read_under heads place.index (length heads) c.index-2.result.now no_head c.index-2.ensures there.0 refl in
-    let both : false ≡ true = ap is_kept_head (sym c.in-Left.is ∙ is) ∙ there.1 in
+    let both : false ≡ true = ap is_kept_head (sym c.in-LeftOut.is ∙ is) ∙ there.1 in
     absurd (cc both)
 
 pub returns : goal.returns

@@ -6,7 +6,7 @@ use Rattle.sf_asm.specs.Entry.{omitted_of}
 use Rattle.sf_asm.specs.Heads.{IsPlaceIn, head_at, heads_at, left_of, no_head}
 use Rattle.sf_asm.proofs.Heads.{left_are, left_of-kept, left_of-left}
 use Rattle.sf_asm.proofs.entries.OrderedEntries.omitted.Goals as goal
-use Rattle.sf_asm.proofs.entries.OrderedEntries.omitted.Goals.{in-Left+in_ok-push, in_default}
+use Rattle.sf_asm.proofs.entries.OrderedEntries.omitted.Goals.{in-LeftOut+in_ok-push, in_default}
 
 pub loop-place-preserved : goal.loop-place-preserved
 loop-place-preserved c =
@@ -24,9 +24,9 @@ loop-place-preserved c =
     ap (λ h. before ++ h ∷ []) is ∙ sym (map-append (head_at heads) (take k places) (place ∷ []))
     ∙ ap (heads_at heads) (sym (take_more places k record { start = 0; index = 0 } c.loop-place-test.true)) in
     elim c.match-index.branch [
-      | in-Left+in_ok-push w ↦
-          ap (λ v. v.items) w.omitted-is ∙ w.in_ok-push.ensures.items ∙ ap (λ (os : List Omitted). os ++ w.in-Left.function ∷ []) c.loop-place.invariant
-          ∙ sym (left_of-left before head w.in-Left.function w.in-Left.is) ∙ ap left_of more
+      | in-LeftOut+in_ok-push w ↦
+          ap (λ v. v.items) w.omitted-is ∙ w.in_ok-push.ensures.items ∙ ap (λ (os : List Omitted). os ++ w.in-LeftOut.function ∷ []) c.loop-place.invariant
+          ∙ sym (left_of-left before head w.in-LeftOut.function w.in-LeftOut.is) ∙ ap left_of more
       | in_default w ↦
           ap (λ v. v.items) w.omitted-is ∙ c.loop-place.invariant ∙ sym (left_of-kept before head w.in_default.field-0 w.in_default.field-1 w.in_default.is) ∙ ap left_of more
     ]

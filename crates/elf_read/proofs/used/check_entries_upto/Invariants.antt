@@ -1,7 +1,0 @@
-use Rattle.std.proofs.Common.{◌≡◌, Ok}
-use Rattle.elf_read.specs.Checking.{each_below}
-use Rattle.elf_read.specs.Used.{entry_check}
-use Rattle.elf_read.proofs.used.check_entries_upto.Given as goal
-
-abbrev pub invariant-loop-k : goal.invariant-loop-k
-invariant-loop-k l = each_below l.k (entry_check l.file l.i) ≡ Ok tt

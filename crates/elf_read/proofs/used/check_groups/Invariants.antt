@@ -1,7 +1,0 @@
-use Rattle.std.proofs.Common.{◌≡◌, Ok}
-use Rattle.elf_read.specs.Checking.{each_below}
-use Rattle.elf_read.specs.Used.{group_check}
-use Rattle.elf_read.proofs.used.check_groups.Given as goal
-
-abbrev pub invariant-loop-i : goal.invariant-loop-i
-invariant-loop-i l = each_below l.i (group_check l.file) ≡ Ok tt

@@ -1,8 +1,0 @@
-use Rattle.std.proofs.Common.{◌≡◌, drop}
-use Rattle.std.specs.List.{find}
-use Rattle.sf_asm.specs.Faithful.{holds_address}
-use Rattle.sf_asm.proofs.address.omitted_at.Given as goal
-
--- what is found among all is found among those that are left
-abbrev pub invariant-loop-number : goal.invariant-loop-number
-invariant-loop-number l = find (holds_address l.pc) l.sources.functions ≡ find (holds_address l.pc) (drop l.number l.sources.functions)

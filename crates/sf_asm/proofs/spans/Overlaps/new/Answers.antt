@@ -1,8 +1,0 @@
-use Rattle.std.proofs.Common.{ap, sym}
-use Rattle.std.specs.Option.{option_map}
-use Rattle.sf_asm.specs.Linking.{overlap_fault}
-use Rattle.sf_asm.proofs.Overlaps.{overlap_begins}
-use Rattle.sf_asm.proofs.spans.Overlaps.new.Goals as goal
-
-pub returns : goal.returns
-returns c = λ spans. ap (option_map overlap_fault) (sym (overlap_begins spans))

@@ -1,8 +1,0 @@
-use Rattle.std.proofs.Common.{◌≡◌, None, ne_eqb, rules}
-use Rattle.sf_asm.proofs.Overlaps.{next_is_seen}
-use Rattle.sf_asm.proofs.spans.Overlaps.see.Goals as goal
-
-pub returns : goal.returns
-returns c =
-    let none : c.args.self.now.first ≡ None = search rules in
-    λ spans. next_is_seen c.args.self.now c.args.span spans _ none (ne_eqb _ _ c.if-span-eq0.false) c.overlap_of-self.ensures
