@@ -1,8 +1,9 @@
 //! Reads the parts of a core file that its checks and its threads need, or else the whole file.
 
-ghost use Rattle.std.specs.Prelude.{◌≡◌, ◌+◌, ◌<◌, ◌≤◌, ℕ, true, Some, length, IsTrue, IsErrOf, IfOk, IfSome, OnOk};
+ghost use Rattle.std.specs.Prelude.{◌≡◌, ◌+◌, ◌<◌, ◌≤◌, ℕ, true, Some, length, IsTrue, IsErrOf, IfErr, IfOk, IfSome, OnOk};
 ghost use Rattle.sf_base.specs.Contents.{contents_of};
 ghost use Rattle.sf_base.specs.Faults.{Rose};
+ghost use Rattle.sf_base.specs.Reading.{StaysOpen, StopsReading};
 ghost use Rattle.sf_base.specs.Seen.{OnlyReads};
 ghost use Rattle.sf_base.specs.declared.loading.LoadFault.TheVariants.{Read, TooLong};
 ghost use Rattle.core_parts.specs.Loaded.{core_read_bytes, is_whole, parts_count, read_count};
@@ -85,18 +86,8 @@ fn read_planned<F: Files>(
     ensures whole { OnOk result (IfSome ((F.seen files.old).contents) (λ _. IsWholeOf parts.new (F.whole files.old))) }
     ensures counted { OnOk result (parts_count parts.new.parts.items + left.new ≡ parts_count parts.old.parts.items + left.old) }
     ensures len { parts.new.len ≡ parts.old.len }
-    ensures same_file { OnOk result (F.whole files.new ≡ F.whole files.old) }
-    ensures opened { OnOk result (IsTrue (F.opened files.new)) }
-    ensures opened_name { OnOk result (F.opened_name files.new ≡ F.opened_name files.old) }
-    ensures read { IsErrOf result LoadFault.Read →
-        Rose ((F.seen files.old).read_faults) ((F.seen files.new).read_faults) }
-    ensures failed_name { IsErrOf result LoadFault.Read →
-        IfSome ((F.seen files.new).failed_name) (λ failed. F.opened_name files.old ≡ Some failed) }
-    ensures not_long { (n : ℕ) → IsErrOf result (LoadFault.TooLong n) → ⊥ }
-    ensures may_open { F.may_open files.new ≡ F.may_open files.old }
-    ensures may_create { F.may_create files.new ≡ F.may_create files.old }
-    ensures reads { OnlyReads (F.seen files.old) (F.seen files.new) }
-    ensures same { OnOk result (F.seen files.new ≡ F.seen files.old) }
+    ensures open { OnOk result (StaysOpen F.Files files.old files.new) }
+    ensures stops { IfErr result (StopsReading F.Files files.old files.new) }
 {
     let header = Window {
         place: 0,
@@ -131,15 +122,8 @@ fn parts_of<F: Files>(
         partial_file core ≡ F.whole files.old))) }
     ensures len { IfOk result (λ found. IfSome found (λ core. length (partial_file core) ≡ len)) }
     ensures few { IfOk result (λ found. IfSome found (λ core. parts_count (parts_of_core core) ≤ most)) }
-    ensures read { IsErrOf result LoadFault.Read →
-        Rose ((F.seen files.old).read_faults) ((F.seen files.new).read_faults) }
-    ensures failed_name { IsErrOf result LoadFault.Read →
-        IfSome ((F.seen files.new).failed_name) (λ failed. F.opened_name files.old ≡ Some failed) }
-    ensures not_long { (n : ℕ) → IsErrOf result (LoadFault.TooLong n) → ⊥ }
-    ensures may_open { F.may_open files.new ≡ F.may_open files.old }
-    ensures may_create { F.may_create files.new ≡ F.may_create files.old }
-    ensures reads { OnlyReads (F.seen files.old) (F.seen files.new) }
-    ensures same { OnOk result (F.seen files.new ≡ F.seen files.old) }
+    ensures open { OnOk result (StaysOpen F.Files files.old files.new) }
+    ensures stops { IfErr result (StopsReading F.Files files.old files.new) }
 {
     let mut parts = FileParts::new(alloc, len);
     let mut left = most;

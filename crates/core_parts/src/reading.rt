@@ -1,9 +1,7 @@
 //! Reads of parts of an open core file.
 
-ghost use Rattle.std.specs.Prelude.{◌≡◌, ◌+◌, ◌≤◌, ◌++◌, ◌∷◌, [], ℕ, List, Some, length, IsTrue, IsErrOf, IfOk, IfSome, OnErr, OnOk, if◌then◌else◌};
-ghost use Rattle.sf_base.specs.Faults.{Rose};
-ghost use Rattle.sf_base.specs.Seen.{OnlyReads};
-ghost use Rattle.sf_base.specs.declared.loading.LoadFault.TheVariants.{Read, TooLong};
+ghost use Rattle.std.specs.Prelude.{◌≡◌, ◌+◌, ◌≤◌, ◌++◌, ◌∷◌, [], ℕ, List, Some, length, IsTrue, IfErr, IfOk, IfSome, OnErr, OnOk, if◌then◌else◌};
+ghost use Rattle.sf_base.specs.Reading.{StaysOpen, StopsReading};
 ghost use Rattle.core_parts.specs.Loaded.{parts_count};
 ghost use Rattle.core_parts.specs.Whole.{IsWholeOf};
 
@@ -98,18 +96,8 @@ pub fn read_window<F: Files>(
     ensures kept { (whole : List ℕ) → IsWholeOf parts.new whole → IsWholeOf parts.old whole }
     ensures counted { OnOk result (parts_count parts.new.parts.items + left.new ≡ parts_count parts.old.parts.items + left.old) }
     ensures len { parts.new.len ≡ parts.old.len }
-    ensures same_file { OnOk result (F.whole files.new ≡ F.whole files.old) }
-    ensures opened { OnOk result (IsTrue (F.opened files.new)) }
-    ensures opened_name { OnOk result (F.opened_name files.new ≡ F.opened_name files.old) }
-    ensures read { IsErrOf result LoadFault.Read →
-        Rose ((F.seen files.old).read_faults) ((F.seen files.new).read_faults) }
-    ensures failed_name { IsErrOf result LoadFault.Read →
-        IfSome ((F.seen files.new).failed_name) (λ failed. F.opened_name files.old ≡ Some failed) }
-    ensures not_long { (n : ℕ) → IsErrOf result (LoadFault.TooLong n) → ⊥ }
-    ensures may_open { F.may_open files.new ≡ F.may_open files.old }
-    ensures may_create { F.may_create files.new ≡ F.may_create files.old }
-    ensures reads { OnlyReads (F.seen files.old) (F.seen files.new) }
-    ensures same { OnOk result (F.seen files.new ≡ F.seen files.old) }
+    ensures open { OnOk result (StaysOpen F.Files files.old files.new) }
+    ensures stops { IfErr result (StopsReading F.Files files.old files.new) }
 {
     // No seek goes past the end, which some machines refuse.
     if window.place > parts.len || window.size > parts.len - window.place || window.size > *left {
@@ -226,18 +214,8 @@ impl CoreParts {
         ensures whole { OnOk result (IfSome ((F.seen files.old).contents) (λ _. IsWholeOf self.new.file (F.whole files.old))) }
         ensures counted { OnOk result (parts_count self.new.file.parts.items + left.new ≡ parts_count self.old.file.parts.items + left.old) }
         ensures len { self.new.file.len ≡ self.old.file.len }
-        ensures same_file { OnOk result (F.whole files.new ≡ F.whole files.old) }
-        ensures opened { OnOk result (IsTrue (F.opened files.new)) }
-        ensures opened_name { OnOk result (F.opened_name files.new ≡ F.opened_name files.old) }
-        ensures read { IsErrOf result LoadFault.Read →
-            Rose ((F.seen files.old).read_faults) ((F.seen files.new).read_faults) }
-        ensures failed_name { IsErrOf result LoadFault.Read →
-            IfSome ((F.seen files.new).failed_name) (λ failed. F.opened_name files.old ≡ Some failed) }
-        ensures not_long { (n : ℕ) → IsErrOf result (LoadFault.TooLong n) → ⊥ }
-        ensures may_open { F.may_open files.new ≡ F.may_open files.old }
-        ensures may_create { F.may_create files.new ≡ F.may_create files.old }
-        ensures reads { OnlyReads (F.seen files.old) (F.seen files.new) }
-        ensures same { OnOk result (F.seen files.new ≡ F.seen files.old) }
+        ensures open { OnOk result (StaysOpen F.Files files.old files.new) }
+        ensures stops { IfErr result (StopsReading F.Files files.old files.new) }
     {
         let Some(window) = self.window_at(address, most) else {
             return Ok(false);
@@ -268,18 +246,8 @@ impl CoreParts {
         ensures whole { OnOk result (IfSome ((F.seen files.old).contents) (λ _. IsWholeOf self.new.file (F.whole files.old))) }
         ensures counted { OnOk result (parts_count self.new.file.parts.items + left.new ≡ parts_count self.old.file.parts.items + left.old) }
         ensures len { self.new.file.len ≡ self.old.file.len }
-        ensures same_file { OnOk result (F.whole files.new ≡ F.whole files.old) }
-        ensures opened { OnOk result (IsTrue (F.opened files.new)) }
-        ensures opened_name { OnOk result (F.opened_name files.new ≡ F.opened_name files.old) }
-        ensures read { IsErrOf result LoadFault.Read →
-            Rose ((F.seen files.old).read_faults) ((F.seen files.new).read_faults) }
-        ensures failed_name { IsErrOf result LoadFault.Read →
-            IfSome ((F.seen files.new).failed_name) (λ failed. F.opened_name files.old ≡ Some failed) }
-        ensures not_long { (n : ℕ) → IsErrOf result (LoadFault.TooLong n) → ⊥ }
-        ensures may_open { F.may_open files.new ≡ F.may_open files.old }
-        ensures may_create { F.may_create files.new ≡ F.may_create files.old }
-        ensures reads { OnlyReads (F.seen files.old) (F.seen files.new) }
-        ensures same { OnOk result (F.seen files.new ≡ F.seen files.old) }
+        ensures open { OnOk result (StaysOpen F.Files files.old files.new) }
+        ensures stops { IfErr result (StopsReading F.Files files.old files.new) }
     {
         let mut all = true;
         for address in addresses {

@@ -3,7 +3,7 @@ use Rattle.std.specs.Prelude.{◌≡◌, ◌<◌, ◌-◌, ◌++◌, ℕ, Bool, 
 use Rattle.std.specs.List.{list_any}
 use Rattle.std.specs.Borrow.{Bor}
 use Rattle.std.specs.BTreeSet.{keys}
-use Rattle.elf_read.specs.Number.{window}
+use Rattle.elf_read.specs.Number.{LiesAt, window}
 use Rattle.elf_groups.specs.declared.text_numbers.TextNumbers.{TextNumbers}
 use Rattle.elf_groups.specs.declared.file_strings.FileStrings.{FileStrings}
 use Rattle.elf_groups.specs.declared.file_strings.NumberedText.{NumberedText}
@@ -39,3 +39,11 @@ AreKnown file blocks texts = All (λ e. IsKnown file blocks e.1) texts.known.ent
 pub record HasTexts (file : List ℕ) (blocks : TextNumbers) (texts : FileStrings) : Type 0 where
   pub runs : AreRuns file texts.ends
   pub known : AreKnown file blocks texts
+
+-- P of a file and of the signatures that were seen, which the set has, where what is known of the file's texts is right and this text lies at the place
+abbrev pub ForText : SeenSignatures → FileStrings → (place : ℕ) → (text : List ℕ) → (P : (file : List ℕ) → (seen : List (List ℕ)) → Type 0) → Type 0
+ForText set texts place text P = (file : List ℕ) (seen : List (List ℕ)) → HasSeen set seen → HasTexts file set.blocks texts → LiesAt place text file → P file seen
+
+-- P of the signatures that were seen, which the set has, where what is known of this file's texts is right
+abbrev pub ForFile : SeenSignatures → FileStrings → (file : List ℕ) → (P : (seen : List (List ℕ)) → Type 0) → Type 0
+ForFile set texts file P = (seen : List (List ℕ)) → HasSeen set seen → HasTexts file set.blocks texts → P seen

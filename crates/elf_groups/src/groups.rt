@@ -2,12 +2,11 @@
 
 ghost use Rattle.std.specs.Prelude.{◌≡◌, ◌<◌, ◌+◌, ◌^◌, ℕ, List, [], ◌∷◌, ◌++◌, IfOk, OnOk, bytes_eq, length};
 ghost use Rattle.std.specs.List.{list_any};
-ghost use Rattle.elf_read.specs.Number.{LiesAt};
 ghost use Rattle.elf_read.specs.Input.{file};
 ghost use Rattle.elf_read.specs.Views.{text_bytes};
 ghost use Rattle.elf_groups.specs.Groups.{group_signature};
 ghost use Rattle.elf_groups.specs.Groups.{dropped_groups, was_seen, seen_after, with_signature};
-ghost use Rattle.elf_groups.specs.SeenSignatures.{HasSeen, HasTexts};
+ghost use Rattle.elf_groups.specs.SeenSignatures.{ForFile, ForText, HasSeen, HasTexts};
 
 use crate::file_strings::FileStrings;
 use crate::text_numbers::{BLOCK, TextNumbers};
@@ -43,9 +42,9 @@ impl<'a> SeenSignatures<'a> {
         signature: &'a [u8],
     ) -> Result<bool, AllocError>
         requires { place + length signature.now < 2 ^ 64 }
-        ensures repeated { IfOk result (λ repeated. (file : List ℕ) (seen : List (List ℕ)) → HasSeen self.old seen → HasTexts file self.old.blocks texts.old → LiesAt place signature.now file → repeated ≡ list_any (bytes_eq signature.now) seen) }
-        ensures seen { OnOk result ((file : List ℕ) (seen : List (List ℕ)) → HasSeen self.old seen → HasTexts file self.old.blocks texts.old → LiesAt place signature.now file → HasSeen self.new (seen ++ signature.now ∷ [])) }
-        ensures texts { OnOk result ((file : List ℕ) (seen : List (List ℕ)) → HasSeen self.old seen → HasTexts file self.old.blocks texts.old → LiesAt place signature.now file → HasTexts file self.new.blocks texts.new) }
+        ensures repeated { IfOk result (λ repeated. ForText self.old texts.old place signature.now (λ file seen. repeated ≡ list_any (bytes_eq signature.now) seen)) }
+        ensures seen { OnOk result (ForText self.old texts.old place signature.now (λ file seen. HasSeen self.new (seen ++ signature.now ∷ []))) }
+        ensures texts { OnOk result (ForText self.old texts.old place signature.now (λ file seen. HasTexts file self.new.blocks texts.new)) }
     {
         let (front, whole) = signature.split_at(signature.len() % BLOCK);
         let number = texts.number(&mut self.blocks, place + front.len() as u64, whole)?;
@@ -59,9 +58,9 @@ impl<'a> SeenSignatures<'a> {
         text: &Text<'a>,
     ) -> Result<bool, AllocError>
         requires { text.now.place + length text.now.rest.now < 2 ^ 64 }
-        ensures repeated { IfOk result (λ repeated. (file : List ℕ) (seen : List (List ℕ)) → HasSeen self.old seen → HasTexts file self.old.blocks texts.old → LiesAt text.now.place text.now.rest.now file → repeated ≡ list_any (bytes_eq (text_bytes text.now)) seen) }
-        ensures seen { OnOk result ((file : List ℕ) (seen : List (List ℕ)) → HasSeen self.old seen → HasTexts file self.old.blocks texts.old → LiesAt text.now.place text.now.rest.now file → HasSeen self.new (seen ++ text_bytes text.now ∷ [])) }
-        ensures texts { OnOk result ((file : List ℕ) (seen : List (List ℕ)) → HasSeen self.old seen → HasTexts file self.old.blocks texts.old → LiesAt text.now.place text.now.rest.now file → HasTexts file self.new.blocks texts.new) }
+        ensures repeated { IfOk result (λ repeated. ForText self.old texts.old text.now.place text.now.rest.now (λ file seen. repeated ≡ list_any (bytes_eq (text_bytes text.now)) seen)) }
+        ensures seen { OnOk result (ForText self.old texts.old text.now.place text.now.rest.now (λ file seen. HasSeen self.new (seen ++ text_bytes text.now ∷ []))) }
+        ensures texts { OnOk result (ForText self.old texts.old text.now.place text.now.rest.now (λ file seen. HasTexts file self.new.blocks texts.new)) }
     {
         let len = texts.ends.len_of(text)?;
         let (signature, _) = text.rest.split_at(len);
@@ -76,9 +75,9 @@ impl<'a> SeenSignatures<'a> {
         elf: &ElfInput<'a>,
         i: u32,
     ) -> Result<bool, AllocError>
-        ensures dropped { IfOk result (λ dropped. (seen : List (List ℕ)) → HasSeen self.old seen → HasTexts (file elf.now) self.old.blocks texts.old → dropped ≡ was_seen seen (group_signature (file elf.now) i)) }
-        ensures seen { OnOk result ((seen : List (List ℕ)) → HasSeen self.old seen → HasTexts (file elf.now) self.old.blocks texts.old → HasSeen self.new (with_signature seen (group_signature (file elf.now) i))) }
-        ensures texts { OnOk result ((seen : List (List ℕ)) → HasSeen self.old seen → HasTexts (file elf.now) self.old.blocks texts.old → HasTexts (file elf.now) self.new.blocks texts.new) }
+        ensures dropped { IfOk result (λ dropped. ForFile self.old texts.old (file elf.now) (λ seen. dropped ≡ was_seen seen (group_signature (file elf.now) i))) }
+        ensures seen { OnOk result (ForFile self.old texts.old (file elf.now) (λ seen. HasSeen self.new (with_signature seen (group_signature (file elf.now) i)))) }
+        ensures texts { OnOk result (ForFile self.old texts.old (file elf.now) (λ seen. HasTexts (file elf.now) self.new.blocks texts.new)) }
     {
         match elf.group(i) {
             Some(group) => {

@@ -1,8 +1,9 @@
 //! Reads the parts of a file that a walk of a process needs, or else the whole file.
 
-ghost use Rattle.std.specs.Prelude.{◌≡◌, ◌<◌, ◌≤◌, ℕ, Some, length, IsTrue, IsErrOf, IfOk, IfSome, OnOk};
+ghost use Rattle.std.specs.Prelude.{◌≡◌, ◌<◌, ◌≤◌, ℕ, Some, length, IsTrue, IsErrOf, IfErr, IfOk, IfSome, OnOk};
 ghost use Rattle.sf_base.specs.Contents.{contents_of};
 ghost use Rattle.sf_base.specs.Faults.{Rose};
+ghost use Rattle.sf_base.specs.Reading.{StaysOpen, StopsReading};
 ghost use Rattle.sf_base.specs.Seen.{OnlyReads};
 ghost use Rattle.sf_base.specs.declared.loading.LoadFault.TheVariants.{Read, TooLong};
 ghost use Rattle.sf_bytes.specs.Parts.{AreParts};
@@ -34,18 +35,8 @@ fn read_note<F: Files>(
     requires parts { IfSome ((F.seen files.old).contents) (λ _. AreParts (F.whole files.old) parts.old.parts.items) }
     ensures parts { OnOk result (IfSome ((F.seen files.old).contents) (λ _. AreParts (F.whole files.old) parts.new.parts.items)) }
     ensures len { parts.new.len ≡ parts.old.len }
-    ensures whole { OnOk result (F.whole files.new ≡ F.whole files.old) }
-    ensures opened { OnOk result (IsTrue (F.opened files.new)) }
-    ensures opened_name { OnOk result (F.opened_name files.new ≡ F.opened_name files.old) }
-    ensures read { IsErrOf result LoadFault.Read →
-        Rose ((F.seen files.old).read_faults) ((F.seen files.new).read_faults) }
-    ensures failed_name { IsErrOf result LoadFault.Read →
-        IfSome ((F.seen files.new).failed_name) (λ failed. F.opened_name files.old ≡ Some failed) }
-    ensures not_long { (n : ℕ) → IsErrOf result (LoadFault.TooLong n) → ⊥ }
-    ensures may_open { F.may_open files.new ≡ F.may_open files.old }
-    ensures may_create { F.may_create files.new ≡ F.may_create files.old }
-    ensures reads { OnlyReads (F.seen files.old) (F.seen files.new) }
-    ensures same { OnOk result (F.seen files.new ≡ F.seen files.old) }
+    ensures open { OnOk result (StaysOpen F.Files files.old files.new) }
+    ensures stops { IfErr result (StopsReading F.Files files.old files.new) }
 {
     let Some(window) = plan::notes(bytes_of(parts, TABLE), i) else {
         return Ok(true);
@@ -66,18 +57,8 @@ fn read_notes<F: Files>(
     requires parts { IfSome ((F.seen files.old).contents) (λ _. AreParts (F.whole files.old) parts.old.parts.items) }
     ensures parts { OnOk result (IfSome ((F.seen files.old).contents) (λ _. AreParts (F.whole files.old) parts.new.parts.items)) }
     ensures len { parts.new.len ≡ parts.old.len }
-    ensures whole { OnOk result (F.whole files.new ≡ F.whole files.old) }
-    ensures opened { OnOk result (IsTrue (F.opened files.new)) }
-    ensures opened_name { OnOk result (F.opened_name files.new ≡ F.opened_name files.old) }
-    ensures read { IsErrOf result LoadFault.Read →
-        Rose ((F.seen files.old).read_faults) ((F.seen files.new).read_faults) }
-    ensures failed_name { IsErrOf result LoadFault.Read →
-        IfSome ((F.seen files.new).failed_name) (λ failed. F.opened_name files.old ≡ Some failed) }
-    ensures not_long { (n : ℕ) → IsErrOf result (LoadFault.TooLong n) → ⊥ }
-    ensures may_open { F.may_open files.new ≡ F.may_open files.old }
-    ensures may_create { F.may_create files.new ≡ F.may_create files.old }
-    ensures reads { OnlyReads (F.seen files.old) (F.seen files.new) }
-    ensures same { OnOk result (F.seen files.new ≡ F.seen files.old) }
+    ensures open { OnOk result (StaysOpen F.Files files.old files.new) }
+    ensures stops { IfErr result (StopsReading F.Files files.old files.new) }
 {
     for i in 0..plan::header_count(bytes_of(parts, 0)) {
         if !read_note(alloc, files, parts, i)? {
@@ -98,18 +79,8 @@ fn read_planned<F: Files>(
     requires parts { IfSome ((F.seen files.old).contents) (λ _. AreParts (F.whole files.old) parts.old.parts.items) }
     ensures parts { OnOk result (IfSome ((F.seen files.old).contents) (λ _. AreParts (F.whole files.old) parts.new.parts.items)) }
     ensures len { parts.new.len ≡ parts.old.len }
-    ensures whole { OnOk result (F.whole files.new ≡ F.whole files.old) }
-    ensures opened { OnOk result (IsTrue (F.opened files.new)) }
-    ensures opened_name { OnOk result (F.opened_name files.new ≡ F.opened_name files.old) }
-    ensures read { IsErrOf result LoadFault.Read →
-        Rose ((F.seen files.old).read_faults) ((F.seen files.new).read_faults) }
-    ensures failed_name { IsErrOf result LoadFault.Read →
-        IfSome ((F.seen files.new).failed_name) (λ failed. F.opened_name files.old ≡ Some failed) }
-    ensures not_long { (n : ℕ) → IsErrOf result (LoadFault.TooLong n) → ⊥ }
-    ensures may_open { F.may_open files.new ≡ F.may_open files.old }
-    ensures may_create { F.may_create files.new ≡ F.may_create files.old }
-    ensures reads { OnlyReads (F.seen files.old) (F.seen files.new) }
-    ensures same { OnOk result (F.seen files.new ≡ F.seen files.old) }
+    ensures open { OnOk result (StaysOpen F.Files files.old files.new) }
+    ensures stops { IfErr result (StopsReading F.Files files.old files.new) }
 {
     if !read_linked_parts(alloc, files, parts)? {
         return Ok(false);
@@ -159,15 +130,8 @@ fn parts_of<F: Files>(
     ensures whole { IfOk result (λ found. IfSome found (λ elf. IfSome ((F.seen files.old).contents) (λ _.
         mapped_file elf ≡ F.whole files.old))) }
     ensures len { IfOk result (λ found. IfSome found (λ elf. length (mapped_file elf) ≡ len)) }
-    ensures read { IsErrOf result LoadFault.Read →
-        Rose ((F.seen files.old).read_faults) ((F.seen files.new).read_faults) }
-    ensures failed_name { IsErrOf result LoadFault.Read →
-        IfSome ((F.seen files.new).failed_name) (λ failed. F.opened_name files.old ≡ Some failed) }
-    ensures not_long { (n : ℕ) → IsErrOf result (LoadFault.TooLong n) → ⊥ }
-    ensures may_open { F.may_open files.new ≡ F.may_open files.old }
-    ensures may_create { F.may_create files.new ≡ F.may_create files.old }
-    ensures reads { OnlyReads (F.seen files.old) (F.seen files.new) }
-    ensures same { OnOk result (F.seen files.new ≡ F.seen files.old) }
+    ensures open { OnOk result (StaysOpen F.Files files.old files.new) }
+    ensures stops { IfErr result (StopsReading F.Files files.old files.new) }
 {
     let mut parts = FileParts::new(alloc, len);
     if !read_planned(alloc, files, &mut parts)? {

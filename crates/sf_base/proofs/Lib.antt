@@ -2,3 +2,4 @@ pub mod Growing
 pub mod Behind
 pub mod Spelling
 pub mod WordLaws
+pub mod ReadingOn

@@ -4,3 +4,4 @@ pub mod Faults
 pub mod Contents
 pub mod Written
 pub mod Word
+pub mod Reading

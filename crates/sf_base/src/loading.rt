@@ -1,8 +1,9 @@
 // Reading a file, or a part of it, into memory.
-ghost use Rattle.std.specs.Prelude.{◌≡◌, ◌<◌, ◌≤◌, ◌++◌, ◌+◌, ℕ, length, take, drop, [], vec_len, IsTrue, IsErrOf, IfOk, IfSome, OnOk, Some};
+ghost use Rattle.std.specs.Prelude.{◌≡◌, ◌<◌, ◌≤◌, ◌++◌, ◌+◌, ℕ, length, take, drop, [], vec_len, IsTrue, IsErrOf, IfErr, IfOk, IfSome, OnOk, Some};
 ghost use Rattle.sf_base.specs.Contents.{contents_of};
 ghost use Rattle.sf_base.specs.declared.loading.LoadFault.TheVariants.{Read, NoMemory};
 ghost use Rattle.sf_base.specs.Faults.{Rose};
+ghost use Rattle.sf_base.specs.Reading.{StaysOpen, StopsReading};
 ghost use Rattle.sf_base.specs.Seen.{OnlyReads};
 
 use crate::{Failed, Files, NoMemory};
@@ -134,18 +135,8 @@ pub fn read_part<F: Files>(
     ensures bytes { IfOk result (λ part. IfSome part (λ bytes. IfSome ((F.seen files.old).contents) (λ _.
         bytes.items ≡ take size (drop place (F.whole files.old))))) }
     ensures within { IfOk result (λ part. IfSome part (λ bytes. vec_len bytes ≤ size)) }
-    ensures whole { OnOk result (F.whole files.new ≡ F.whole files.old) }
-    ensures opened { OnOk result (IsTrue (F.opened files.new)) }
-    ensures opened_name { OnOk result (F.opened_name files.new ≡ F.opened_name files.old) }
-    ensures read { IsErrOf result LoadFault.Read →
-        Rose ((F.seen files.old).read_faults) ((F.seen files.new).read_faults) }
-    ensures failed_name { IsErrOf result LoadFault.Read →
-        IfSome ((F.seen files.new).failed_name) (λ failed. F.opened_name files.old ≡ Some failed) }
-    ensures not_long { (n : ℕ) → IsErrOf result (LoadFault.TooLong n) → ⊥ }
-    ensures may_open { F.may_open files.new ≡ F.may_open files.old }
-    ensures may_create { F.may_create files.new ≡ F.may_create files.old }
-    ensures reads { OnlyReads (F.seen files.old) (F.seen files.new) }
-    ensures same { OnOk result (F.seen files.new ≡ F.seen files.old) }
+    ensures open { OnOk result (StaysOpen F.Files files.old files.new) }
+    ensures stops { IfErr result (StopsReading F.Files files.old files.new) }
 {
     if !files.seek(place) {
         return Ok(None);
