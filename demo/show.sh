@@ -38,7 +38,7 @@ rm -rf "$out"
 mkdir -p "$out"
 
 say '1. Build. The prover goes through all functions of the program, the C libraries and the crates that they stand on, and all are'
-say '   compiled. From nothing this took 28 minutes on four idle processors, and 7 GB of disk, with seven crates fewer; later runs begin'
+say '   compiled. From nothing this took 41 minutes on four idle processors of 2.5 GHz, and 10 GB of disk; later runs begin'
 say '   with what is kept. A line for each crate:'
 ./x build "$out/build.log" link "$PWD/$out/one.sframe@0x3000" "eh-amd64:$PWD/crates/sf_tool/data/e1@0x2000" ||
     fail "the build failed: see $out/build.log"
