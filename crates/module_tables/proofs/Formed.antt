@@ -5,7 +5,7 @@ use Rattle.sf_model.specs.declared.form.Form.TheVariants.{Elf, Bare}
 use Rattle.sf_model.specs.declared.omission.Omitted.{Omitted}
 use Rattle.sf_model.specs.declared.omission.Span.{Span as span}
 use Rattle.sf_asm.specs.Functions.{Object}
-use Rattle.sf_asm.specs.Kept.{omitted_functions}
+use Rattle.frame_functions.specs.Kept.{omitted_functions}
 use Rattle.sf_lookup.specs.declared.span.Span.{Span}
 use Rattle.sf_plt.specs.Answers.{IsPltLinked}
 use Rattle.signal_frames.specs.declared.frame.SignalFrame.{SignalFrame}

@@ -1,7 +1,7 @@
 -- The signal frames of functions, one function after the other.
 use Rattle.std.proofs.Common.{◌≡◌, inl, inr, ℕ, ◌+◌, ◌<◌, ◌≤◌, List, [], ◌∷◌, ◌++◌, length, get_or, take, Some, None, refl, sym, ap, subst, ◌∙◌}
 use Rattle.std.proofs.lemmas.List.{take_all, take_more}
-use Rattle.sf_asm.specs.Functions.{Function}
+use Rattle.frame_functions.specs.Functions.{Function}
 use Rattle.sf_lookup.specs.declared.span.Span.{Span}
 use Rattle.signal_frames.specs.declared.frame.SignalFrame.{SignalFrame}
 use Rattle.module_tables.specs.Signals.{AreSignals, HasNoSignalFrame, HasSignalFrame, IsSignalOf, signal_span}

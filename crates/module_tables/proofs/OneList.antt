@@ -1,7 +1,7 @@
 -- Functions have one list of signal frames.
 use Rattle.std.proofs.Common.{◌≡◌, inl, inr, List, [], ◌∷◌, Option, Some, None, IfSome, refl, sym, ap, ◌∙◌}
-use Rattle.sf_asm.specs.Functions.{Function}
-use Rattle.sf_asm.specs.Kept.{facts_of}
+use Rattle.frame_functions.specs.Functions.{Function}
+use Rattle.frame_functions.specs.Kept.{facts_of}
 use Rattle.sf_lookup.specs.declared.span.Span.{Span}
 use Rattle.signal_frames.specs.declared.frame.SignalFrame.{SignalFrame}
 use Rattle.signal_frames.proofs.Deciding.{Decided, decide}

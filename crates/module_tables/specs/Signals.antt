@@ -1,7 +1,7 @@
 -- The signal frames of functions that SFrame can't express (GNU's augmentation letter `S`; DWARF 5, sections 6.4.1 and 6.4.2).
 use Rattle.std.specs.Prelude.{◌≡◌, ◌⊎◌, List, [], ◌∷◌}
-use Rattle.sf_asm.specs.Functions.{Function}
-use Rattle.sf_asm.specs.Kept.{facts_of}
+use Rattle.frame_functions.specs.Functions.{Function}
+use Rattle.frame_functions.specs.Kept.{facts_of}
 use Rattle.sf_lookup.specs.declared.span.Span.{Span}
 use Rattle.signal_frames.specs.declared.frame.SignalFrame.{SignalFrame}
 use Rattle.signal_frames.specs.SignalFrame.{IsSignalFrame}

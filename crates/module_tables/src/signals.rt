@@ -1,11 +1,11 @@
 //! The signal frames of functions.
 
 ghost use Rattle.std.specs.Prelude.{◌≡◌, ℕ, Some, IfOk, IfSome};
-ghost use Rattle.sf_asm.specs.Sources.{source_function};
+ghost use Rattle.frame_functions.specs.Sources.{source_function};
 ghost use Rattle.signal_frames.specs.declared.frame.SignalFrame.{SignalFrame as frame};
 ghost use Rattle.module_tables.specs.Signals.{AreSignals, HasSignalFrame, IsSignalOf, signal_span};
 
-use sf_asm::{Source, Sources};
+use frame_functions::{Source, Sources};
 use sf_base::NoMemory;
 use sf_lookup::Span;
 use signal_frames::{SignalFrame, signal_frame};

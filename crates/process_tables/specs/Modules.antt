@@ -10,7 +10,7 @@ use Rattle.sf_model.specs.Walk.{Recovering, ThreadState}
 use Rattle.sf_write.specs.Section.{table_of}
 use Rattle.sf_lookup.specs.declared.span.Span.{Span}
 use Rattle.sf_lookup.specs.Span.{answer_of}
-use Rattle.sf_asm.specs.Functions.{Function}
+use Rattle.frame_functions.specs.Functions.{Function}
 use Rattle.sf_plt.specs.Written.{recover_with_plts, written_functions}
 use Rattle.sf_modules.specs.Entry.{EntryView, entry_contains}
 use Rattle.sf_modules.specs.Mapped.{IsMapped, MappedView}

@@ -11,17 +11,18 @@ use Rattle.std.proofs.lemmas.List.Sorted.{sum_by-IsPermutation, length_permutati
 use Rattle.sf_model.specs.declared.machine.Arch.{Arch}
 use Rattle.sf_model.specs.declared.omission.Span.{Span}
 use Rattle.sf_write.specs.Reach.{first_out_of_reach}
-use Rattle.sf_asm.specs.declared.entry.Entry.{Entry}
+use Rattle.frame_functions.specs.declared.entry.Entry.{Entry}
 use Rattle.sf_asm.specs.declared.fault.GatherFault.{GatherFault}
 use Rattle.sf_asm.specs.declared.fault.LinkFault.{LinkFault}
 use Rattle.sf_asm.specs.declared.fault.LinkFault.TheVariants as link
 use Rattle.sf_asm.specs.Accepted.{has_address, how_many_at, CanBeGathered, IsAccepted}
-use Rattle.sf_asm.specs.Entry.{kept_of, spans_of}
-use Rattle.sf_asm.specs.Functions.{Function, Object, functions_of}
+use Rattle.frame_functions.specs.Entry.{kept_of, spans_of}
+use Rattle.frame_functions.specs.Functions.{Function}
+use Rattle.sf_asm.specs.Functions.{Object, functions_of}
 use Rattle.sf_asm.specs.Inputs.{all_functions, first_item, machines_of, mixed_fault}
-use Rattle.sf_asm.specs.Kept.{entry_of}
-use Rattle.sf_asm.specs.Linking.{Gathers, GathersFrom, InOrder, Links, LinksFrom, functions_fault, limits_fault, link_fault, or_later, overlap, overlap_after, overlap_fault, overlap_in, overlap_with, start_of, unless_fault}
-use Rattle.sf_asm.specs.Order.{are_apart, entry_rows}
+use Rattle.frame_functions.specs.Kept.{entry_of}
+use Rattle.frame_functions.specs.Order.{InOrder, start_of, are_apart, entry_rows}
+use Rattle.sf_asm.specs.Linking.{Gathers, GathersFrom, Links, LinksFrom, functions_fault, limits_fault, link_fault, or_later, overlap, overlap_after, overlap_fault, overlap_in, overlap_with, unless_fault}
 use Rattle.sf_functions.proofs.ByStart.{by_key, in_order}
 use Rattle.sf_asm.proofs.Described.{describe, described, from_gathers, from_links, to_gathers, to_links}
 use Rattle.sf_asm.proofs.GatheredInputs.{are_read, by_parts, parts_of}

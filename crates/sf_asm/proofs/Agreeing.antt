@@ -23,15 +23,15 @@ use Rattle.sf_express.specs.Runs.{omission_of, rows_of, expressed, unless_omitte
 use Rattle.sf_express.proofs.Found.{SaysContent, row_said}
 use Rattle.sf_express.proofs.Alike.{recovers_alike}
 use Rattle.sf_express.proofs.Column.{own_column}
-use Rattle.sf_asm.specs.declared.entry.Entry.{Entry}
-use Rattle.sf_asm.specs.declared.entry.Expressed.{Expressed}
-use Rattle.sf_asm.specs.declared.entry.Expressed.TheVariants as outcome
-use Rattle.sf_asm.specs.Entry.{kept_in, kept_of, spans_of}
-use Rattle.sf_asm.specs.Functions.{Function}
-use Rattle.sf_asm.specs.Kept.{full_row, says_of, facts_of, outcome_by, entry_of, is_kept, kept_functions}
-use Rattle.sf_asm.specs.Linking.{InOrder, overlap_in}
-use Rattle.sf_asm.specs.Order.{are_apart}
-use Rattle.sf_asm.specs.Faithful.{holds_address, recovered_in, recovered_at}
+use Rattle.frame_functions.specs.declared.entry.Entry.{Entry}
+use Rattle.frame_functions.specs.declared.entry.Expressed.{Expressed}
+use Rattle.frame_functions.specs.declared.entry.Expressed.TheVariants as outcome
+use Rattle.frame_functions.specs.Entry.{kept_in, kept_of, spans_of}
+use Rattle.frame_functions.specs.Functions.{Function, holds_address}
+use Rattle.frame_functions.specs.Kept.{full_row, says_of, facts_of, outcome_by, entry_of, is_kept, kept_functions}
+use Rattle.frame_functions.specs.Order.{InOrder, are_apart}
+use Rattle.sf_asm.specs.Linking.{overlap_in}
+use Rattle.sf_asm.specs.Faithful.{recovered_in, recovered_at}
 use Rattle.sf_model.proofs.Unions.{Member, OnePasses}
 use Rattle.sf_asm.proofs.Finding.{found_alike}
 use Rattle.sf_asm.proofs.Holding.{IsWithin, fine, one_within, within, within_span}

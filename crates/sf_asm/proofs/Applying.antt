@@ -9,7 +9,7 @@ use Rattle.elf_reloc.specs.Applied.{Slot, Applied, by_place, applied_of, applied
 use Rattle.elf_reloc.specs.Order.{overlap_check}
 use Rattle.elf_reloc.specs.Reading.{section_fixes}
 use Rattle.elf_reloc.proofs.Applying.{applied_unread, applied_overlapping, applied_checked}
-use Rattle.sf_asm.specs.Relocated.{without_overlap, relocations_of, pointer_check, pointer_slot, on_pointers}
+use Rattle.frame_functions.specs.Relocated.{without_overlap, relocations_of, pointer_check, pointer_slot, on_pointers}
 use Rattle.sf_bytes.specs.Steps.{◌>>=◌}
 
 abbrev okay : List RelocatedField → Result (List RelocatedField) RelocFault

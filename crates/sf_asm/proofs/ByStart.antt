@@ -2,11 +2,11 @@
 use Rattle.std.specs.Prelude.{not}
 use Rattle.std.proofs.Common.{◌≡◌, List, map, refl, sym, ap, ◌∙◌}
 use Rattle.sf_functions.proofs.ByStart.{by_key, by_key-filter, by_key-map, by_key-only, in_order}
-use Rattle.sf_asm.specs.declared.entry.Entry.{Entry}
-use Rattle.sf_asm.specs.Functions.{Function}
-use Rattle.sf_asm.specs.Kept.{entry_of, is_kept, omitted_functions}
-use Rattle.sf_asm.specs.Linking.{InOrder, start_of}
-use Rattle.sf_asm.specs.Sources.{AreByStart, function_start}
+use Rattle.frame_functions.specs.declared.entry.Entry.{Entry}
+use Rattle.frame_functions.specs.Functions.{Function}
+use Rattle.frame_functions.specs.Kept.{entry_of, is_kept, omitted_functions}
+use Rattle.frame_functions.specs.Order.{InOrder, start_of}
+use Rattle.frame_functions.specs.Sources.{AreByStart, function_start}
 
 abbrev pub sorted_functions : List Function → List Function
 sorted_functions functions = by_key function_start functions

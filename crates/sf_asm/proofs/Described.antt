@@ -10,17 +10,19 @@ use Rattle.eh_records.specs.Fde.{FdeView}
 use Rattle.eh_records.specs.Section.{EntryView, entries_of, frames, pointer_fields}
 use Rattle.eh_records.proofs.EntriesRefused.{as_read, read_as}
 use Rattle.elf_reloc.specs.declared.fix.RelocatedField.{RelocatedField}
-use Rattle.sf_asm.specs.declared.fault.AsmFault.{AsmFault}
-use Rattle.sf_asm.specs.declared.fault.AsmFault.TheVariants as asm
+use Rattle.frame_functions.specs.declared.fault.AsmFault.{AsmFault}
+use Rattle.frame_functions.specs.declared.fault.AsmFault.TheVariants as asm
 use Rattle.sf_asm.specs.declared.fault.GatherFault.{GatherFault}
 use Rattle.sf_asm.specs.declared.fault.GatherFault.TheVariants as gather
 use Rattle.sf_asm.specs.Described.{of_one_machine, DescribeTogether, joined, AllDescribe, OrFault, FrameDescribes, FramesDescribe, SectionDescribes, InputsDescribe, Describe}
-use Rattle.sf_asm.specs.Functions.{◌>>=◌, Function, CallFrames, Object, by_instructions, function_in, functions_in, functions_after, functions_of, machine_of, named, section_functions, sections_functions, seen_behind}
+use Rattle.frame_functions.specs.CallFrames.{CallFrames}
+use Rattle.frame_functions.specs.Functions.{Function, by_instructions, function_in, functions_in, section_functions, sections_functions}
+use Rattle.sf_asm.specs.Functions.{◌>>=◌, Object, functions_after, functions_of, machine_of, named, seen_behind}
 use Rattle.sf_asm.specs.Inputs.{all_functions, first_item}
 use Rattle.sf_asm.specs.Linking.{Gathers, GathersFrom, Links, LinksFrom}
-use Rattle.sf_asm.specs.declared.entry.Entry.{Entry}
+use Rattle.frame_functions.specs.declared.entry.Entry.{Entry}
 use Rattle.sf_asm.specs.declared.fault.LinkFault.{LinkFault}
-use Rattle.sf_asm.specs.Relocated.{Values, on_pointers, patched_values}
+use Rattle.frame_functions.specs.Relocated.{Values, on_pointers, patched_values}
 use Rattle.sf_asm.specs.Sections.{SectionsAre, elf_sections, files_in, sections_by, seen_by}
 use Rattle.sf_model.specs.declared.form.Form.{Form}
 use Rattle.sf_model.specs.declared.form.Form.TheVariants.{Elf, Bare}

@@ -1,6 +1,6 @@
 -- The section of gathered functions is faithful.
 use Rattle.std.specs.Option.{option_map}
-use Rattle.std.proofs.Common.{◌≡◌, ℕ, List, length, map, Option, Some, None, Result, Ok, Err, refl, sym, ap, subst, ◌∙◌}
+use Rattle.std.proofs.Common.{◌≡◌, ℕ, List, length, map, Option, Some, None, Result, Ok, Err, refl, sym, ap, subst, ◌∙◌, inl, inr}
 use Rattle.sf_model.specs.declared.machine.Arch.{Arch}
 use Rattle.sf_model.specs.declared.function.Func.{Func}
 use Rattle.sf_model.specs.declared.omission.Omitted.{Omitted}
@@ -11,17 +11,20 @@ use Rattle.sf_write.specs.declared.fault.WriteFault.{WriteFault}
 use Rattle.sf_write.specs.declared.fault.WriteFault.TheVariants.{OutOfReach}
 use Rattle.sf_write.specs.Reach.{Refuses, first_out_of_reach}
 use Rattle.sf_write.specs.Section.{table_of}
-use Rattle.sf_asm.specs.declared.entry.Entry.{Entry}
+use Rattle.frame_functions.specs.declared.entry.Entry.{Entry}
 use Rattle.sf_asm.specs.declared.fault.GatherFault.{GatherFault}
+use Rattle.sf_asm.specs.declared.fault.GatherFault.TheVariants as gather
 use Rattle.sf_asm.specs.declared.fault.LinkFault.TheVariants as link
-use Rattle.sf_asm.specs.Answers.{IsLinked}
-use Rattle.sf_asm.specs.Entry.{kept_of, omitted_of, spans_of}
+use Rattle.sf_asm.specs.Answers.{IsFirstGathered, IsFirstLinked, IsLinked}
+use Rattle.sf_asm.specs.Fault.{wraps_gathering}
+use Rattle.frame_functions.specs.Entry.{kept_of, omitted_of, spans_of}
 use Rattle.sf_asm.specs.Faithful.{Faithful}
-use Rattle.sf_asm.specs.Functions.{Function, Object}
-use Rattle.sf_asm.specs.Inputs.{HaveMachine, all_functions}
-use Rattle.sf_asm.specs.Inputs.{first_item}
-use Rattle.sf_asm.specs.Kept.{entry_of}
-use Rattle.sf_asm.specs.Linking.{InOrder, overlap_fault, overlap_in, limits_fault, functions_fault, link_fault, or_later, unless_fault, Gathers, GathersFrom, Links, LinksFrom}
+use Rattle.frame_functions.specs.Functions.{Function}
+use Rattle.sf_asm.specs.Functions.{Object}
+use Rattle.sf_asm.specs.Inputs.{HaveMachine, all_functions, first_item}
+use Rattle.frame_functions.specs.Kept.{entry_of}
+use Rattle.frame_functions.specs.Order.{InOrder}
+use Rattle.sf_asm.specs.Linking.{overlap_fault, overlap_in, limits_fault, functions_fault, link_fault, or_later, unless_fault, Gathers, GathersFrom, Links, LinksFrom}
 use Rattle.sf_asm.proofs.Agreeing.{recovers_by_dwarf}
 use Rattle.sf_asm.proofs.Described.{describe, from_gathers, to_links}
 use Rattle.sf_asm.proofs.GatheredInputs.{are_read, checked_is}
@@ -101,3 +104,13 @@ pub not_reached : (before : Option Arch) (objects : List Object) (at : ℕ) (fun
     → Links before objects at (Err (link.OutOfReach start))
 not_reached before objects at functions ordered start h kept_are far =
     to_links before objects at (Err (link.OutOfReach start)) (out_of_reach at (all_functions before objects) ordered start (subst (λ (fs : List Func). first_out_of_reach at 0 fs ≡ Some start) kept_are far) (from_gathers before objects (Ok ordered) h))
+
+-- a fault of gathering is the first one of linking
+pub first_gathered : (before : Option Arch) (objects : List Object) (at : ℕ) (fault : GatherFault) → IsFirstGathered before objects fault → IsFirstLinked before objects at (wraps_gathering fault)
+first_gathered before objects at fault (inl none) = inl (ap wraps_gathering none)
+first_gathered before objects at gather.NoMemory (inr first) = inl refl
+first_gathered before objects at gather.TooManyFunctions (inr first) = inr (not_gathered before objects at gather.TooManyFunctions first)
+first_gathered before objects at gather.TooManyRows (inr first) = inr (not_gathered before objects at gather.TooManyRows first)
+first_gathered before objects at (gather.Input item fault) (inr first) = inr (not_gathered before objects at (gather.Input item fault) first)
+first_gathered before objects at (gather.MixedArch one other) (inr first) = inr (not_gathered before objects at (gather.MixedArch one other) first)
+first_gathered before objects at (gather.Overlap s i t j) (inr first) = inr (not_gathered before objects at (gather.Overlap s i t j) first)

@@ -13,14 +13,16 @@ use Rattle.elf_place.specs.Views as view
 use Rattle.elf_reloc.specs.declared.fault.RelocFault.{RelocFault}
 use Rattle.elf_reloc.specs.declared.fix.RelocatedField.{RelocatedField}
 use Rattle.elf_reloc.specs.Reading.{placed_address}
-use Rattle.sf_asm.specs.declared.fault.AsmFault.{AsmFault}
-use Rattle.sf_asm.specs.declared.fault.AsmFault.TheVariants as asm
+use Rattle.frame_functions.specs.declared.fault.AsmFault.{AsmFault}
+use Rattle.frame_functions.specs.declared.fault.AsmFault.TheVariants as asm
 use Rattle.sf_model.specs.declared.form.Form.TheVariants.{Elf}
-use Rattle.sf_asm.specs.Fault.{wraps_place}
-use Rattle.sf_asm.specs.Functions.{◌>>=◌, Function, CallFrames, named, object_functions, sections_functions}
+use Rattle.frame_functions.specs.Fault.{wraps_place}
+use Rattle.frame_functions.specs.CallFrames.{CallFrames}
+use Rattle.frame_functions.specs.Functions.{Function, sections_functions}
+use Rattle.sf_asm.specs.Functions.{◌>>=◌, named, object_functions}
 use Rattle.elf_groups.specs.Groups.{dropped_groups}
 use Rattle.sf_asm.specs.Placing.{IsPlacing}
-use Rattle.sf_asm.specs.Relocated.{relocations_of}
+use Rattle.frame_functions.specs.Relocated.{relocations_of}
 use Rattle.sf_asm.specs.Sections.{dropped_after, placing_of, placed_section, linked_check}
 
 -- ---- placing

@@ -1,13 +1,15 @@
 -- What gathering inputs comes to, from what was read of them and tried.
 use Rattle.std.proofs.Common.{◌≡◌, ℕ, ◌+◌, All, List, length, map, Option, Some, None, Result, Ok, Err, refl, sym, ap, subst, ◌∙◌}
 use Rattle.sf_model.specs.declared.machine.Arch.{Arch}
-use Rattle.sf_asm.specs.declared.entry.Entry.{Entry}
+use Rattle.frame_functions.specs.declared.entry.Entry.{Entry}
 use Rattle.sf_asm.specs.declared.fault.GatherFault.{GatherFault}
-use Rattle.sf_asm.specs.Answers.{seen_as}
-use Rattle.sf_asm.specs.Functions.{◌>>=◌, Function, Object, functions_of, machine_of, unless}
+use Rattle.frame_functions.specs.Answers.{seen_as}
+use Rattle.frame_functions.specs.Functions.{Function}
+use Rattle.sf_asm.specs.Functions.{◌>>=◌, Object, functions_of, machine_of, unless}
 use Rattle.sf_asm.specs.Inputs.{all_functions, first_item, mixed_among, mixed_fault, with_before}
-use Rattle.sf_asm.specs.Kept.{entry_of}
-use Rattle.sf_asm.specs.Linking.{InOrder, functions_fault, unless_fault, Gathers, GathersFrom}
+use Rattle.frame_functions.specs.Kept.{entry_of}
+use Rattle.frame_functions.specs.Order.{InOrder}
+use Rattle.sf_asm.specs.Linking.{functions_fault, unless_fault, Gathers, GathersFrom}
 use Rattle.sf_asm.proofs.Described.{from_gathers, to_gathers}
 use Rattle.sf_asm.proofs.Items.{IsWithin, ordered_within}
 

@@ -13,11 +13,11 @@ use Rattle.sf_model.specs.declared.omission.Reason.TheVariants.{EmptyRange}
 use Rattle.sf_model.specs.declared.omission.Span.{Span}
 use Rattle.sf_asm.specs.declared.list_forms.Gathered.{Gathered}
 use Rattle.sf_model.specs.Function.{AreWritable}
-use Rattle.sf_asm.specs.declared.entry.Entry.{Entry}
-use Rattle.sf_asm.specs.declared.entry.Expressed.{Expressed}
-use Rattle.sf_asm.specs.declared.entry.Expressed.TheVariants.{Kept, LeftOut}
-use Rattle.sf_asm.specs.Kept.{outcome_by}
-use Rattle.sf_asm.specs.Entry.{kept_by_item, kept_of, of_item, omitted_of, spans_of}
+use Rattle.frame_functions.specs.declared.entry.Entry.{Entry}
+use Rattle.frame_functions.specs.declared.entry.Expressed.{Expressed}
+use Rattle.frame_functions.specs.declared.entry.Expressed.TheVariants.{Kept, LeftOut}
+use Rattle.frame_functions.specs.Kept.{outcome_by}
+use Rattle.frame_functions.specs.Entry.{kept_by_item, kept_of, of_item, omitted_of, spans_of}
 use Rattle.sf_asm.proofs.Kept.{kept_of-kept, kept_of-left}
 
 abbrev pub is_of : (item : ℕ) → Entry → Bool

@@ -18,15 +18,15 @@ use Rattle.sf_express.specs.Runs as runs
 use Rattle.sf_express.specs.Runs.{Saying, against, first_against, omission_of, rows_of, whole_or_row}
 use Rattle.sf_express.proofs.AsPieces.{rows_said_by}
 use Rattle.sf_express.proofs.Found.{SaysContent}
-use Rattle.sf_asm.specs.declared.entry.Entry.{Entry}
+use Rattle.frame_functions.specs.declared.entry.Entry.{Entry}
 use Rattle.sf_asm.specs.declared.fault.GatherFault.{GatherFault}
-use Rattle.sf_asm.specs.Entry.{spans_of}
-use Rattle.sf_asm.specs.Faithful.{holds_address}
-use Rattle.sf_asm.specs.Functions.{Function, Object}
-use Rattle.sf_asm.specs.Kept.{entry_of, facts_of, is_kept, says_of}
+use Rattle.frame_functions.specs.Entry.{spans_of}
+use Rattle.frame_functions.specs.Functions.{holds_address, Function}
+use Rattle.sf_asm.specs.Functions.{Object}
+use Rattle.frame_functions.specs.Kept.{entry_of, facts_of, is_kept, says_of}
 use Rattle.sf_asm.specs.Linking.{Gathers, limits_fault, or_later, overlap_fault, overlap_in}
-use Rattle.sf_asm.specs.Order.{are_apart}
-use Rattle.sf_asm.specs.ContentAt.{form_content, has_form}
+use Rattle.frame_functions.specs.Order.{are_apart}
+use Rattle.frame_functions.specs.ContentAt.{form_content, has_form}
 use Rattle.sf_model.proofs.Unions.{Member, OnePasses}
 use Rattle.sf_asm.proofs.GatheredInputs.{are_read}
 use Rattle.sf_asm.proofs.Kept.{not_overlapping_apart}

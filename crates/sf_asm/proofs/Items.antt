@@ -6,14 +6,16 @@ use Rattle.std.proofs.lemmas.List.Sorted.{All-permutation}
 use Rattle.sf_model.specs.declared.machine.Arch.{Arch}
 use Rattle.eh_records.specs.Fde.{FdeView}
 use Rattle.eh_records.specs.Section.{entries_of, frames, pointer_fields}
-use Rattle.sf_asm.specs.declared.entry.Entry.{Entry}
-use Rattle.sf_asm.specs.declared.fault.AsmFault.{AsmFault}
-use Rattle.sf_asm.specs.declared.fault.AsmFault.TheVariants as asm
+use Rattle.frame_functions.specs.declared.entry.Entry.{Entry}
+use Rattle.frame_functions.specs.declared.fault.AsmFault.{AsmFault}
+use Rattle.frame_functions.specs.declared.fault.AsmFault.TheVariants as asm
 use Rattle.sf_asm.specs.declared.fault.GatherFault.TheVariants as gather
-use Rattle.sf_asm.specs.Functions.{◌>>=◌, CallFrames, Function, Object, fault_in, function_at, function_in, functions_in, functions_after, machine_of, named, object_functions, section_functions, sections_functions, sections_of, seen_behind, span_in, unless}
-use Rattle.sf_asm.specs.Kept.{entry_of}
-use Rattle.sf_asm.specs.Linking.{InOrder}
-use Rattle.sf_asm.specs.Relocated.{Values, on_pointers, patched_values}
+use Rattle.frame_functions.specs.CallFrames.{CallFrames}
+use Rattle.frame_functions.specs.Functions.{Function, fault_in, function_at, function_in, functions_in, section_functions, sections_functions, span_in}
+use Rattle.sf_asm.specs.Functions.{◌>>=◌, Object, functions_after, machine_of, named, object_functions, sections_of, seen_behind, unless}
+use Rattle.frame_functions.specs.Kept.{entry_of}
+use Rattle.frame_functions.specs.Order.{InOrder}
+use Rattle.frame_functions.specs.Relocated.{Values, on_pointers, patched_values}
 use Rattle.sf_asm.proofs.ReadInputs.{functions_after-cons, functions_after-nil}
 
 -- the value behind a step

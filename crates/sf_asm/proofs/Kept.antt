@@ -15,13 +15,13 @@ use Rattle.sf_model.specs.declared.omission.Omission.{Omission}
 use Rattle.sf_model.specs.declared.omission.Omitted.{Omitted}
 use Rattle.sf_model.specs.declared.omission.Span.{Span}
 use Rattle.sf_model.specs.Function.{IsWritable, AreWritable}
-use Rattle.sf_asm.specs.declared.entry.Entry.{Entry}
-use Rattle.sf_asm.specs.declared.entry.Expressed.{Expressed}
-use Rattle.sf_asm.specs.declared.entry.Expressed.TheVariants.{Kept, LeftOut}
-use Rattle.sf_asm.specs.Entry.{IsSound, IsSoundOutcome, kept_of, kept_in, omitted_of, omitted_in, spans_of}
+use Rattle.frame_functions.specs.declared.entry.Entry.{Entry}
+use Rattle.frame_functions.specs.declared.entry.Expressed.{Expressed}
+use Rattle.frame_functions.specs.declared.entry.Expressed.TheVariants.{Kept, LeftOut}
+use Rattle.frame_functions.specs.Entry.{IsSound, IsSoundOutcome, kept_of, kept_in, omitted_of, omitted_in, spans_of}
 use Rattle.sf_asm.specs.declared.fault.GatherFault.{GatherFault}
 use Rattle.sf_asm.specs.Linking.{functions_fault, limits_fault, or_later, overlap_after, overlap_fault, overlap_in, overlap_with}
-use Rattle.sf_asm.specs.Order.{are_apart, rows_of, entry_rows}
+use Rattle.frame_functions.specs.Order.{are_apart, rows_of, entry_rows}
 use Rattle.sf_asm.proofs.Limits.{few_functions, few_rows}
 use Rattle.sf_asm.proofs.OverlapLaws.{overlap_begins, overlap_passes, overlap_goes_on, overlap_ends}
 

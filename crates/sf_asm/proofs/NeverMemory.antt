@@ -54,19 +54,22 @@ use Rattle.elf_reloc.specs.Table.{fits, width_of}
 use Rattle.sf_functions.specs.declared.limits.Limit.{Limit}
 use Rattle.sf_functions.specs.declared.limits.Limit.TheVariants.{Functions, Rows}
 use Rattle.sf_functions.specs.Limits.{exceeded}
-use Rattle.sf_asm.specs.declared.entry.Entry.{Entry}
-use Rattle.sf_asm.specs.declared.fault.AsmFault.{AsmFault}
-use Rattle.sf_asm.specs.declared.fault.AsmFault.TheVariants as asm
+use Rattle.frame_functions.specs.declared.entry.Entry.{Entry}
+use Rattle.frame_functions.specs.declared.fault.AsmFault.{AsmFault}
+use Rattle.frame_functions.specs.declared.fault.AsmFault.TheVariants as asm
 use Rattle.sf_asm.specs.declared.fault.GatherFault.{GatherFault}
 use Rattle.sf_asm.specs.declared.fault.GatherFault.TheVariants as gather
 use Rattle.sf_asm.specs.Answers.{IsFirstGathered}
-use Rattle.sf_asm.specs.Fault.{is_gather_answered, is_gather_refusal, is_input_refusal, is_machine_refusal, is_place_refusal, is_record_refusal, is_reloc_refusal, is_wrapped_answered}
-use Rattle.sf_asm.specs.Functions.{◌>>=◌, CallFrames, Function, Object, bare_section, fault_in, function_in, functions_after, functions_in, functions_of, named, object_functions, section_functions, sections_functions, seen_behind, span_in, unless}
+use Rattle.frame_functions.specs.Fault.{is_input_refusal, is_machine_refusal, is_place_refusal, is_record_refusal, is_reloc_refusal}
+use Rattle.sf_asm.specs.Fault.{is_gather_answered, is_gather_refusal, is_wrapped_answered}
+use Rattle.frame_functions.specs.CallFrames.{CallFrames, bare_section}
+use Rattle.frame_functions.specs.Functions.{Function, fault_in, function_in, functions_in, section_functions, sections_functions, span_in}
+use Rattle.sf_asm.specs.Functions.{◌>>=◌, Object, functions_after, functions_of, named, object_functions, seen_behind, unless}
 use Rattle.sf_asm.specs.Inputs.{all_functions, differing, first_item, machines_of, mixed_fault}
-use Rattle.sf_asm.specs.Entry.{spans_of}
+use Rattle.frame_functions.specs.Entry.{spans_of}
 use Rattle.sf_asm.specs.Linking.{Gathers, GathersFrom, fault_of_limit, functions_fault, limits_fault, or_later, overlap_fault, overlap_in, unless_fault}
-use Rattle.sf_asm.specs.Order.{entry_rows}
-use Rattle.sf_asm.specs.Relocated.{Values, by_place, on_pointers, patched_values, pointer_check, pointer_slot, relocations_of}
+use Rattle.frame_functions.specs.Order.{entry_rows, exceeded_by}
+use Rattle.frame_functions.specs.Relocated.{Values, by_place, on_pointers, patched_values, pointer_check, pointer_slot, relocations_of}
 use Rattle.sf_asm.specs.Sections.{dropped_after, elf_sections, linked_check, linked_kind, placed_section, placing_of}
 use Rattle.sf_asm.proofs.Described.{from_gathers}
 
@@ -394,7 +397,7 @@ limit_answered Functions = refl
 limit_answered Rows = refl
 
 limits : (ordered : List Entry) → FaultIn is_wrapped_answered (limits_fault ordered)
-unfolding limits_fault
+unfolding limits_fault exceeded_by
 limits ordered = any_mapped is_wrapped_answered fault_of_limit (exceeded (length ordered) (sum_by entry_rows ordered)) limit_answered
 
 pub functions_tried : (ordered : List Entry) → FaultIn is_wrapped_answered (functions_fault ordered)

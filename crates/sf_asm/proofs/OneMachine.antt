@@ -4,7 +4,8 @@ use Rattle.std.proofs.Common.{◌≡◌, ℕ, ◌+◌, All, List, [], ◌∷◌,
 use Rattle.std.proofs.lemmas.List.Elements.{All-from_recursion, recursion_from_All}
 use Rattle.sf_model.specs.declared.machine.Arch.{Arch}
 use Rattle.sf_asm.specs.declared.fault.GatherFault.TheVariants as gather
-use Rattle.sf_asm.specs.Functions.{◌>>=◌, Function, Object, functions_after, functions_of, machine_of, named, object_functions, seen_behind}
+use Rattle.frame_functions.specs.Functions.{Function}
+use Rattle.sf_asm.specs.Functions.{◌>>=◌, Object, functions_after, functions_of, machine_of, named, object_functions, seen_behind}
 use Rattle.sf_asm.specs.Inputs.{HaveMachine, first_item}
 use Rattle.sf_asm.proofs.Items.{AreOf, behind, list_in, object_of_item, unnamed}
 use Rattle.sf_asm.proofs.Machines.{inputs_have}

@@ -3,19 +3,20 @@ use Rattle.std.specs.Prelude.{◌⊎◌}
 use Rattle.std.proofs.Common.{◌≡◌, ℕ, ◌+◌, ◌<◌, ◌≤◌, Bool, List, [], ◌∷◌, ◌++◌, length, get_or, take, drop, map, Result, Ok, Err, refl, sym, ap, subst, ◌∙◌, add-one, arith, inl, inr}
 use Rattle.std.proofs.Math.Seq.{drop-cons}
 use Rattle.std.proofs.lemmas.List.{append-nil, drop_all, map-append, take_more}
-use Rattle.sf_asm.specs.declared.fault.AsmFault.{AsmFault}
-use Rattle.sf_asm.specs.declared.fault.AsmFault.TheVariants as asm
+use Rattle.frame_functions.specs.declared.fault.AsmFault.{AsmFault}
+use Rattle.frame_functions.specs.declared.fault.AsmFault.TheVariants as asm
 use Rattle.sf_asm.specs.declared.fault.GatherFault.{GatherFault}
 use Rattle.sf_asm.specs.declared.fault.GatherFault.TheVariants as gather
 use Rattle.elf_groups.specs.declared.groups.SeenSignatures.{SeenSignatures}
 use Rattle.sf_asm.specs.declared.input.Input.{Input}
-use Rattle.sf_asm.specs.declared.read.ReadFunctions.{ReadFunctions}
-use Rattle.sf_asm.specs.Answers.{after_read}
+use Rattle.frame_functions.specs.declared.read.ReadFunctions.{ReadFunctions}
+use Rattle.frame_functions.specs.Answers.{after_read}
 use Rattle.sf_asm.specs.Fault.{wraps_input}
-use Rattle.sf_asm.specs.Functions.{◌>>=◌, Function, Object, functions_after, functions_of, machine_of, named, object_functions, object_of, seen_behind}
-use Rattle.sf_asm.specs.ReadSoFar.{AreReadSoFar, ReadsAll}
+use Rattle.frame_functions.specs.Functions.{Function}
+use Rattle.sf_asm.specs.Functions.{◌>>=◌, Object, functions_after, functions_of, machine_of, named, object_functions, object_of, seen_behind}
+use Rattle.frame_functions.specs.ReadSoFar.{AreReadSoFar, ReadsAll}
 use Rattle.elf_groups.specs.SeenSignatures.{HasSeen}
-use Rattle.sf_asm.proofs.ReadSoFar.{after_both, after_none, then_others}
+use Rattle.frame_functions.proofs.ReadSoFar.{after_both, after_none, then_others}
 
 -- ---- the fault of one input
 wrapped : (item : ℕ) (given : Result (List Function) AsmFault) (fault : AsmFault) → wraps_input item fault ≡ gather.Input item fault → (fault ≡ asm.NoMemory → ⊥) → (fault ≡ asm.NoMemory) ⊎ (given ≡ Err fault)

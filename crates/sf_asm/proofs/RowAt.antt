@@ -1,9 +1,9 @@
 -- What the function that has an address says there, among all functions of inputs.
-use Rattle.std.specs.Prelude.{◌&&◌, IfOk, nat_le, nat_lt, not}
+use Rattle.std.specs.Prelude.{◌&&◌, nat_le, nat_lt, not}
 use Rattle.std.specs.List.{find}
 use Rattle.std.specs.List.Sorted.{IsPermutation}
 use Rattle.std.specs.Option.{option_and_then, option_map}
-use Rattle.std.proofs.Common.{◌≡◌, ◌≢◌, ℕ, ◌+◌, ◌^◌, ◌-◌, ◌<◌, ◌≤◌, Bool, true, false, cond, List, [], ◌∷◌, drop, get_or, length, map, Option, Some, None, Result, Ok, Err, refl, sym, ap, subst, ◌∙◌, arith, inl, inr}
+use Rattle.std.proofs.Common.{◌≡◌, ◌≢◌, ℕ, ◌+◌, ◌^◌, ◌-◌, ◌<◌, ◌≤◌, Bool, true, false, cond, List, [], ◌∷◌, drop, get_or, length, map, Option, Some, None, Ok, refl, sym, ap, subst, ◌∙◌, arith, inl, inr}
 use Rattle.std.proofs.lemmas.Bool.{cases_lt}
 use Rattle.std.proofs.lemmas.List.{drop_more}
 use Rattle.sf_model.specs.declared.content.Content.{Content}
@@ -16,14 +16,14 @@ use Rattle.sf_model.specs.Lookup.{contains}
 use Rattle.sf_express.specs.declared.pieces.Piece.{Piece}
 use Rattle.sf_express.specs.Pieces.{ArePieces, AreSaidBy, PiecesDiffer, piece_of_row, said_by}
 use Rattle.sf_asm.specs.Described.{Describe}
-use Rattle.sf_asm.specs.Entry.{kept_of}
-use Rattle.sf_asm.specs.Faithful.{holds_address}
-use Rattle.sf_asm.specs.Functions.{Function, Object}
-use Rattle.sf_asm.specs.Kept.{entry_of, is_kept, kept_functions, omitted_functions}
-use Rattle.sf_asm.specs.Order.{are_apart}
-use Rattle.sf_asm.specs.ContentAt.{IsSaidUpTo, RowAt, SaidTo, SaysUpTo, dwarf_at, form_content, said_in, with_key}
+use Rattle.frame_functions.specs.Entry.{kept_of}
+use Rattle.frame_functions.specs.Functions.{holds_address, Function}
+use Rattle.sf_asm.specs.Functions.{Object}
+use Rattle.frame_functions.specs.Kept.{entry_of, is_kept, kept_functions, omitted_functions}
+use Rattle.frame_functions.specs.Order.{are_apart}
+use Rattle.frame_functions.specs.ContentAt.{IsSaidUpTo, RowAt, SaidTo, SaysUpTo, dwarf_at, form_content, said_in, with_key}
 use Rattle.sf_asm.specs.Sources.{AreWithSources}
-use Rattle.sf_asm.specs.declared.keyed_content.KeyedContent.{KeyedContent}
+use Rattle.frame_functions.specs.declared.keyed_content.KeyedContent.{KeyedContent}
 use Rattle.sf_asm.proofs.Agreeing.{expressed_of, find_kept, found_passes}
 use Rattle.sf_asm.proofs.Described.{described}
 use Rattle.sf_model.proofs.Unions.{Member, found, found_alone, from_filter, in_filter, some_found}
@@ -41,10 +41,6 @@ found_in view p found x asked items same e is = subst (λ (ys : List _). find p 
 
 pub none_in : {X Y : Type 0} (view : X → Y) (p : Y → Bool) (found : Option X) (asked items : List Y) → asked ≡ items → option_map view found ≡ find p asked → found ≡ None → find p items ≡ None
 none_in view p found asked items same e is = subst (λ (ys : List _). find p ys ≡ None) same (sym e ∙ ap (option_map view) is)
-
-pub if_ok : {A E : Type 0} (r : Result A E) (P Q : A → Type 0) → ((a : A) → P a → Q a) → IfOk r P → IfOk r Q
-if_ok (Ok a) P Q f h = f a h
-if_ok (Err e) P Q f h = h
 
 -- ---- what is found, one function after another
 pub found_here : {X : Type 0} (p : X → Bool) (xs : List X) (k : ℕ) (d x : X) → k < length xs → get_or xs k d ≡ x → p x ≡ true → find p (drop k xs) ≡ Some x

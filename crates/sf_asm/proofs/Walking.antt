@@ -6,11 +6,12 @@ use Rattle.sf_model.specs.Memory.{Region}
 use Rattle.sf_model.specs.Recovery.{Recovery, Value, Known, Unreadable}
 use Rattle.sf_model.specs.Walk.{ThreadState, behind, unsigned_address, Going, on_by_address, on_by_pointer, on_by, frame_by, Recovering, address_before, frames_from, walk_by, recover_by_rows, section_walk}
 use Rattle.sf_express.specs.Alike.{defined}
-use Rattle.sf_asm.specs.declared.entry.Entry.{Entry}
-use Rattle.sf_asm.specs.Entry.{kept_of, spans_of}
-use Rattle.sf_asm.specs.Functions.{Function}
-use Rattle.sf_asm.specs.Kept.{entry_of}
-use Rattle.sf_asm.specs.Linking.{InOrder, overlap_in}
+use Rattle.frame_functions.specs.declared.entry.Entry.{Entry}
+use Rattle.frame_functions.specs.Entry.{kept_of, spans_of}
+use Rattle.frame_functions.specs.Functions.{Function}
+use Rattle.frame_functions.specs.Kept.{entry_of}
+use Rattle.frame_functions.specs.Order.{InOrder}
+use Rattle.sf_asm.specs.Linking.{overlap_in}
 use Rattle.sf_asm.specs.Faithful.{if_whole, recover_by_dwarf, dwarf_walk}
 use Rattle.sf_asm.proofs.Agreeing.{recovers_by_dwarf}
 

@@ -3,20 +3,23 @@ use Rattle.std.specs.Option.{option_map}
 use Rattle.std.proofs.Common.{◌≡◌, ℕ, Bool, List, map, Option, Some, None, Ok, Err, refl, sym, ap, subst, ◌∙◌}
 use Rattle.sf_model.specs.declared.machine.Arch.{Arch}
 use Rattle.sf_functions.proofs.ByStart.{by_key, in_order}
-use Rattle.sf_asm.specs.declared.entry.Entry.{Entry}
+use Rattle.frame_functions.specs.declared.entry.Entry.{Entry}
 use Rattle.sf_asm.specs.declared.fault.GatherFault.{GatherFault}
-use Rattle.sf_asm.specs.declared.read.HeldFunctions.{HeldFunctions}
-use Rattle.sf_asm.specs.declared.read.ReadFunctions.{ReadFunctions}
-use Rattle.sf_asm.specs.declared.read.ReadFunctions.TheVariants.{Within}
-use Rattle.sf_asm.specs.Answers.{seen_as}
-use Rattle.sf_asm.specs.Entry.{spans_of}
-use Rattle.sf_asm.specs.Functions.{Function, Object, functions_of, machine_of, unless}
+use Rattle.frame_functions.specs.declared.read.HeldFunctions.{HeldFunctions}
+use Rattle.frame_functions.specs.declared.read.ReadFunctions.{ReadFunctions}
+use Rattle.frame_functions.specs.declared.read.ReadFunctions.TheVariants.{Within}
+use Rattle.frame_functions.specs.Answers.{seen_as}
+use Rattle.frame_functions.specs.Entry.{spans_of}
+use Rattle.frame_functions.specs.Functions.{Function}
+use Rattle.sf_asm.specs.Functions.{Object, functions_of, machine_of, unless}
 use Rattle.sf_asm.specs.Inputs.{first_item, mixed_among, with_before}
-use Rattle.sf_asm.specs.Kept.{entry_of}
-use Rattle.sf_asm.specs.Linking.{Gathers, InOrder, functions_fault, limits_fault, or_later, overlap_fault, overlap_in, start_of, unless_fault}
-use Rattle.sf_asm.specs.ReadSoFar.{AreHeld, AreReadSoFar}
+use Rattle.frame_functions.specs.Kept.{entry_of}
+use Rattle.frame_functions.specs.Order.{InOrder, start_of}
+use Rattle.sf_asm.specs.Linking.{Gathers, functions_fault, limits_fault, or_later, overlap_fault, overlap_in, unless_fault}
+use Rattle.frame_functions.specs.ReadSoFar.{AreHeld, AreReadSoFar}
 use Rattle.sf_asm.proofs.GatheredInputs.{machines_refused, tried}
-use Rattle.sf_asm.proofs.ReadSoFar.{held_within, limits_moved}
+use Rattle.frame_functions.proofs.ReadSoFar.{held_within}
+use Rattle.sf_asm.proofs.Limits.{limits_moved, no_fault}
 
 -- the fault of functions in order, by that of their limits
 fault_is : (all ordered : List Entry) (limits : Option GatherFault) → InOrder all ordered → limits_fault all ≡ limits → functions_fault ordered ≡ or_later limits (option_map overlap_fault (overlap_in (spans_of ordered)))
@@ -67,7 +70,7 @@ module _ (before : Option Arch) (objects : List Object) (first : ℕ) (lending :
     order = subst (λ (es : List Entry). InOrder es ordered) are.entries held_order
 
     only_overlaps : functions_fault ordered ≡ overlaps_of ordered
-    only_overlaps = fault_is (map entry_of all.0) ordered None order (held_within lending held all.0 are)
+    only_overlaps = fault_is (map entry_of all.0) ordered None order (no_fault (map entry_of all.0) (held_within lending held all.0 are))
 
     pub overlapping : (fault : GatherFault) → Err fault ≡ unless (overlaps_of ordered) → Gathers before objects (Err fault)
     overlapping fault e = comes ordered (Some fault) order (only_overlaps ∙ one_found (overlaps_of ordered) fault e)

@@ -9,15 +9,15 @@ use Rattle.sf_model.specs.declared.content.Ra.TheVariants.{Fixed, Link, At}
 use Rattle.sf_model.specs.declared.function.Shape.TheVariants.{Plain}
 use Rattle.sf_model.specs.declared.omission.Reason.TheVariants.{RaRule, CfaRegister}
 use Rattle.eh_records.specs.declared.fault.RecordFault.TheVariants as record_faults
-use Rattle.sf_asm.specs.declared.entry.Entry.{Entry}
-use Rattle.sf_asm.specs.declared.entry.Expressed.TheVariants as outcome
-use Rattle.sf_asm.specs.declared.fault.AsmFault.{AsmFault}
-use Rattle.sf_asm.specs.declared.fault.AsmFault.TheVariants as asm
+use Rattle.frame_functions.specs.declared.entry.Entry.{Entry}
+use Rattle.frame_functions.specs.declared.entry.Expressed.TheVariants as outcome
+use Rattle.frame_functions.specs.declared.fault.AsmFault.{AsmFault}
+use Rattle.frame_functions.specs.declared.fault.AsmFault.TheVariants as asm
 use Rattle.sf_asm.specs.declared.fault.GatherFault.{GatherFault}
 use Rattle.sf_asm.specs.declared.fault.GatherFault.TheVariants as gather
 use Rattle.sf_model.specs.declared.form.Form.TheVariants.{Bare}
-use Rattle.sf_asm.specs.Answers.{seen_as}
-use Rattle.sf_asm.specs.Kept.{entry_of}
+use Rattle.frame_functions.specs.Answers.{seen_as}
+use Rattle.frame_functions.specs.Kept.{entry_of}
 use Rattle.sf_bytes.specs.Cursor.{number_at, part_at, signed_at}
 use Rattle.sf_bytes.specs.Leb.{is_negative, leb_signed, leb_sum, run_length, sleb_at, uleb_at}
 use Rattle.sf_bytes.specs.Text.{text_at}
@@ -39,7 +39,8 @@ use Rattle.elf_reloc.specs.declared.table.Range.TheVariants.{Signed}
 use Rattle.elf_reloc.specs.Order.{first_at}
 use Rattle.elf_reloc.specs.Patched.{overwritten, patched}
 use Rattle.elf_reloc.specs.Table.{low_bits}
-use Rattle.sf_asm.specs.Functions.{function_in, functions_after, functions_of, section_functions}
+use Rattle.frame_functions.specs.Functions.{function_in, section_functions}
+use Rattle.sf_asm.specs.Functions.{functions_after, functions_of}
 use Rattle.elf_reloc.specs.Applied.{slot_check}
 
 -- what becomes of the functions of a bare section whose first byte lies at 0x2000

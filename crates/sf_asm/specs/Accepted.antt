@@ -5,13 +5,13 @@ use Rattle.sf_model.specs.declared.machine.Arch.{Arch}
 use Rattle.sf_model.specs.declared.omission.Span.{Span}
 use Rattle.sf_write.specs.Reach.{first_out_of_reach}
 use Rattle.sf_asm.specs.Described.{Describe}
-use Rattle.sf_asm.specs.declared.entry.Entry.{Entry}
-use Rattle.sf_asm.specs.Entry.{kept_of}
-use Rattle.sf_asm.specs.Functions.{Function, Object}
+use Rattle.frame_functions.specs.declared.entry.Entry.{Entry}
+use Rattle.frame_functions.specs.Entry.{kept_of}
+use Rattle.frame_functions.specs.Functions.{Function}
+use Rattle.sf_asm.specs.Functions.{Object}
 use Rattle.sf_asm.specs.Inputs.{HaveMachine, first_item}
-use Rattle.sf_asm.specs.Kept.{entry_of}
-use Rattle.sf_asm.specs.Linking.{InOrder}
-use Rattle.sf_asm.specs.Order.{entry_rows}
+use Rattle.frame_functions.specs.Kept.{entry_of}
+use Rattle.frame_functions.specs.Order.{InOrder, entry_rows}
 
 -- the address lies in the function, kept or omitted
 abbrev pub has_address : (address : ℕ) → Span → Bool

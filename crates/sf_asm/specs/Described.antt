@@ -9,14 +9,15 @@ use Rattle.eh_records.specs.declared.fault.RecordFault.{RecordFault}
 use Rattle.eh_records.specs.Fde.{FdeView}
 use Rattle.eh_records.specs.Refused.{AreReadAs}
 use Rattle.eh_records.specs.Section.{EntryView, frames, pointer_fields}
-use Rattle.sf_asm.specs.declared.fault.AsmFault.{AsmFault}
-use Rattle.sf_asm.specs.declared.fault.AsmFault.TheVariants.{Reloc, Record}
+use Rattle.frame_functions.specs.declared.fault.AsmFault.{AsmFault}
+use Rattle.frame_functions.specs.declared.fault.AsmFault.TheVariants.{Reloc, Record}
 use Rattle.sf_asm.specs.declared.fault.GatherFault.{GatherFault}
 use Rattle.sf_asm.specs.declared.fault.GatherFault.TheVariants.{Input as RefusedInput}
-use Rattle.sf_asm.specs.Functions.{Function, by_instructions}
+use Rattle.frame_functions.specs.Functions.{Function, by_instructions}
 use Rattle.sf_asm.specs.Inputs.{first_item, mixed_fault}
-use Rattle.sf_asm.specs.Relocated.{Values, on_pointers, patched_values}
-use Rattle.sf_asm.specs.Sections.{Object, CallFrames, SectionsAre, files_in, machine_of}
+use Rattle.frame_functions.specs.Relocated.{Values, on_pointers, patched_values}
+use Rattle.frame_functions.specs.CallFrames.{CallFrames}
+use Rattle.sf_asm.specs.Sections.{Object, SectionsAre, files_in, machine_of}
 use Rattle.sf_bytes.specs.Steps.{◌>>=◌, named}
 use Rattle.sf_model.specs.Firsts.{unless}
 

@@ -1,7 +1,7 @@
 -- What a linked section is to the call frame information that it was made of (GNU SFrame specification, Version 2; DWARF 5, section
 -- 6.4): it has the kept functions, recovers what DWARF recovers at each of their addresses and nothing elsewhere, and walks over it are
 -- walks by DWARF.
-use Rattle.std.specs.Prelude.{◌≡◌, ◌+◌, ◌-◌, ◌&&◌, ℕ, Bool, nat_le, nat_lt, List, map, Option, Some, None}
+use Rattle.std.specs.Prelude.{◌≡◌, ◌-◌, ℕ, List, map, Option, Some, None}
 use Rattle.std.specs.Option.{option_map, option_and_then}
 use Rattle.std.specs.List.{find}
 use Rattle.sf_model.specs.declared.machine.Arch.{Arch}
@@ -14,17 +14,13 @@ use Rattle.sf_model.specs.Table.{Table}
 use Rattle.sf_model.specs.Walk.{ThreadState, Listing, Recovering, walk_by, recover_by_rows, section_walk}
 use Rattle.cfa_machine.specs.Recovery.{RuleRecovery, recovery_by_rules}
 use Rattle.sf_express.specs.Alike.{defined}
-use Rattle.sf_asm.specs.declared.entry.Entry.{Entry}
-use Rattle.sf_asm.specs.Entry.{kept_of}
-use Rattle.sf_asm.specs.Functions.{Function}
-use Rattle.sf_asm.specs.Kept.{full_row, entry_of, kept_functions}
-use Rattle.sf_asm.specs.Linking.{InOrder}
+use Rattle.frame_functions.specs.declared.entry.Entry.{Entry}
+use Rattle.frame_functions.specs.Entry.{kept_of}
+use Rattle.frame_functions.specs.Functions.{Function, holds_address}
+use Rattle.frame_functions.specs.Kept.{full_row, entry_of, kept_functions}
+use Rattle.frame_functions.specs.Order.{InOrder}
 
 -- ---- by DWARF
--- the address is one of the function's
-abbrev pub holds_address : (address : ℕ) → Function → Bool
-holds_address address f = nat_le f.start address && nat_lt address (f.start + f.size)
-
 -- what the rules of a function's row at an address recover, with the function's return address column and key
 abbrev pub recovered_in : List Region → (address : ℕ) → Regs → Function → RuleRecovery
 recovered_in memory address regs f = recovery_by_rules f.arch f.column (full_row f (address - f.start)) f.key regs memory

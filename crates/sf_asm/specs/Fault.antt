@@ -1,48 +1,14 @@
 -- Which faults are refusals of the inputs, with a line of their own, and which ones a call returns.
 use Rattle.std.specs.Prelude.{ℕ, Bool, true, false}
-use Rattle.elf_place.specs.declared.fault.PlaceFault.{PlaceFault}
-use Rattle.elf_place.specs.declared.fault.PlaceFault.TheVariants as place_faults
-use Rattle.elf_reloc.specs.declared.fault.RelocFault.{RelocFault}
-use Rattle.elf_reloc.specs.declared.fault.RelocFault.TheVariants as reloc_faults
-use Rattle.eh_records.specs.declared.fault.RecordFault.{RecordFault}
-use Rattle.eh_records.specs.declared.fault.RecordFault.TheVariants as record_faults
-use Rattle.cfa_machine.specs.declared.fault.MachineFault.{MachineFault}
-use Rattle.cfa_machine.specs.declared.fault.MachineFault.TheVariants as machine_faults
-use Rattle.sf_asm.specs.declared.fault.AsmFault.{AsmFault}
-use Rattle.sf_asm.specs.declared.fault.AsmFault.TheVariants as asm
+use Rattle.frame_functions.specs.declared.fault.AsmFault.{AsmFault}
+use Rattle.frame_functions.specs.declared.fault.AsmFault.TheVariants as asm
+use Rattle.sf_write.specs.declared.fault.WriteFault.{WriteFault}
+use Rattle.sf_write.specs.declared.fault.WriteFault.TheVariants as write
 use Rattle.sf_asm.specs.declared.fault.GatherFault.{GatherFault}
 use Rattle.sf_asm.specs.declared.fault.GatherFault.TheVariants as gather
 use Rattle.sf_asm.specs.declared.fault.LinkFault.{LinkFault}
 use Rattle.sf_asm.specs.declared.fault.LinkFault.TheVariants as link
-
--- a fault of placing is a refusal: all but out of memory are
-abbrev pub is_place_refusal : PlaceFault → Bool
-is_place_refusal place_faults.NoMemory = false
-is_place_refusal fault = true
-
--- the same for a fault of relocations
-abbrev pub is_reloc_refusal : RelocFault → Bool
-is_reloc_refusal reloc_faults.NoMemory = false
-is_reloc_refusal fault = true
-
--- the same for a fault of records
-abbrev pub is_record_refusal : RecordFault → Bool
-is_record_refusal record_faults.NoMemory = false
-is_record_refusal fault = true
-
--- the same for a fault of instructions
-abbrev pub is_machine_refusal : MachineFault → Bool
-is_machine_refusal machine_faults.NoMemory = false
-is_machine_refusal fault = true
-
--- a refusal of one input
-abbrev pub is_input_refusal : AsmFault → Bool
-is_input_refusal (asm.Elf fault) = true
-is_input_refusal (asm.Place fault) = is_place_refusal fault
-is_input_refusal (asm.Reloc section fault) = is_reloc_refusal fault
-is_input_refusal (asm.Record section fault) = is_record_refusal fault
-is_input_refusal (asm.Machine section fault) = is_machine_refusal fault
-is_input_refusal asm.NoMemory = false
+use Rattle.frame_functions.specs.Fault.{is_input_refusal}
 
 -- a refusal of the inputs while they are gathered
 abbrev pub is_gather_refusal : GatherFault → Bool
@@ -79,28 +45,17 @@ is_answered (link.Gather fault) = is_wrapped_answered fault
 is_answered (link.OutOfReach start) = true
 is_answered link.NoMemory = true
 
--- ---- Inside the crate: how inner faults are passed on
--- a fault of placing as the input's, where out of memory is not wrapped
-abbrev pub wraps_place : PlaceFault → AsmFault
-wraps_place place_faults.NoMemory = asm.NoMemory
-wraps_place fault = asm.Place fault
-
--- the same for a fault of a section's relocations
-abbrev pub wraps_reloc : (section : ℕ) → RelocFault → AsmFault
-wraps_reloc section reloc_faults.NoMemory = asm.NoMemory
-wraps_reloc section fault = asm.Reloc section fault
-
--- the same for a fault of its records
-abbrev pub wraps_record : (section : ℕ) → RecordFault → AsmFault
-wraps_record section record_faults.NoMemory = asm.NoMemory
-wraps_record section fault = asm.Record section fault
-
--- the same for a fault of its instructions
-abbrev pub wraps_machine : (section : ℕ) → MachineFault → AsmFault
-wraps_machine section machine_faults.NoMemory = asm.NoMemory
-wraps_machine section fault = asm.Machine section fault
-
 -- the same for a fault of an input
 abbrev pub wraps_input : (item : ℕ) → AsmFault → GatherFault
 wraps_input item asm.NoMemory = gather.NoMemory
 wraps_input item fault = gather.Input item fault
+
+-- a fault of gathering as one of linking, where out of memory is not wrapped
+abbrev pub wraps_gathering : GatherFault → LinkFault
+wraps_gathering gather.NoMemory = link.NoMemory
+wraps_gathering fault = link.Gather fault
+
+-- a fault of writing the section as one of linking
+abbrev pub wraps_writing : WriteFault → LinkFault
+wraps_writing (write.OutOfReach start) = link.OutOfReach start
+wraps_writing write.NoMemory = link.NoMemory

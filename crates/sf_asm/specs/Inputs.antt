@@ -5,7 +5,9 @@ use Rattle.sf_model.specs.declared.machine.Arch.{Arch}
 use Rattle.sf_model.specs.declared.machine.Arch.TheVariants.{Amd64, Aarch64}
 use Rattle.sf_asm.specs.declared.fault.GatherFault.{GatherFault}
 use Rattle.sf_asm.specs.declared.fault.GatherFault.TheVariants.{MixedArch}
-use Rattle.sf_asm.specs.Functions.{◌>>=◌, Function, Object, functions_of, machine_of, unless}
+use Rattle.frame_functions.specs.Functions.{Function}
+use Rattle.sf_asm.specs.Functions.{Object, functions_of, machine_of, unless}
+use Rattle.sf_bytes.specs.Steps.{◌>>=◌}
 
 -- the number of the first input, after an item of this machine or of none
 abbrev pub first_item : (before : Option Arch) → ℕ

@@ -1,5 +1,5 @@
 -- The functions of all inputs in the order of their addresses, and why there may be no section of them.
-use Rattle.std.specs.Prelude.{◌≡◌, ℕ, Bool, not, ◌==◌, List, ◌∷◌, map, length, sum_by, Option, Some, None, Result, Ok, Err, if◌then◌else◌}
+use Rattle.std.specs.Prelude.{◌≡◌, ℕ, Bool, not, ◌==◌, List, ◌∷◌, map, Option, Some, None, Result, Ok, Err, if◌then◌else◌}
 use Rattle.std.specs.Option.{option_map}
 use Rattle.std.specs.List.{filter}
 use Rattle.sf_model.specs.declared.machine.Arch.{Arch}
@@ -7,29 +7,20 @@ use Rattle.sf_model.specs.declared.omission.Span.{Span}
 use Rattle.sf_write.specs.Reach.{first_out_of_reach}
 use Rattle.sf_functions.specs.declared.limits.Limit.{Limit}
 use Rattle.sf_functions.specs.declared.limits.Limit.TheVariants.{Functions, Rows}
-use Rattle.sf_functions.specs.Limits.{exceeded}
 use Rattle.sf_functions.specs.Neighbours.{first_overlap, overlap_by}
-use Rattle.sf_functions.specs.Order.{IsInOrder}
-use Rattle.sf_asm.specs.declared.entry.Entry.{Entry}
+use Rattle.frame_functions.specs.declared.entry.Entry.{Entry}
 use Rattle.sf_asm.specs.declared.fault.GatherFault.{GatherFault}
 use Rattle.sf_asm.specs.declared.fault.GatherFault.TheVariants as gather
 use Rattle.sf_asm.specs.declared.overlaps.Overlaps.{Overlaps}
 use Rattle.sf_asm.specs.declared.fault.LinkFault.{LinkFault}
 use Rattle.sf_asm.specs.declared.fault.LinkFault.TheVariants.{Gather, OutOfReach}
-use Rattle.sf_asm.specs.Entry.{kept_of, spans_of}
-use Rattle.sf_asm.specs.Functions.{Function, Object}
+use Rattle.frame_functions.specs.Entry.{kept_of, spans_of}
+use Rattle.frame_functions.specs.Functions.{Function}
+use Rattle.sf_asm.specs.Functions.{Object}
 use Rattle.sf_asm.specs.Described.{DescribeTogether}
-use Rattle.sf_asm.specs.Kept.{entry_of}
-use Rattle.sf_asm.specs.Order.{entry_rows}
+use Rattle.frame_functions.specs.Kept.{entry_of}
+use Rattle.frame_functions.specs.Order.{InOrder, exceeded_by}
 pub use Rattle.sf_model.specs.Firsts.{or_later, unless_fault}
-
--- its first address
-abbrev pub start_of : Entry → ℕ
-start_of entry = entry.span.start
-
--- the same functions by rising start; those of one start stay in their order
-abbrev pub InOrder : (all ordered : List Entry) → Type 0
-InOrder all ordered = IsInOrder start_of all ordered
 
 -- ---- overlaps
 -- the first of a function's addresses
@@ -60,7 +51,7 @@ fault_of_limit Rows = gather.TooManyRows
 
 -- at most 2^21 functions, omitted ones included, and 2^24 rows of kept ones
 unfoldable pub limits_fault : List Entry → Option GatherFault
-limits_fault ordered = option_map fault_of_limit (exceeded (length ordered) (sum_by entry_rows ordered))
+limits_fault ordered = option_map fault_of_limit (exceeded_by ordered)
 
 -- of all functions: the limits, and then overlaps
 abbrev pub functions_fault : List Entry → Option GatherFault

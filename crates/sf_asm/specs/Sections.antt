@@ -12,11 +12,9 @@ use Rattle.elf_read.specs.Sections.{section_bytes, section_count}
 use Rattle.elf_place.specs.Dropped.{dropped_sections}
 use Rattle.elf_place.specs.Place.{address_of, eh_frames_below, place_check, shift_of}
 use Rattle.elf_place.specs.Views.{Placing}
-use Rattle.elf_reloc.specs.declared.fault.RelocFault.{RelocFault}
-use Rattle.elf_reloc.specs.declared.fix.RelocatedField.{RelocatedField}
 use Rattle.elf_reloc.specs.Reading.{placed_address}
-use Rattle.sf_asm.specs.declared.fault.AsmFault.{AsmFault}
-use Rattle.sf_asm.specs.declared.fault.AsmFault.TheVariants as asm
+use Rattle.frame_functions.specs.declared.fault.AsmFault.{AsmFault}
+use Rattle.frame_functions.specs.declared.fault.AsmFault.TheVariants as asm
 use Rattle.sf_model.specs.declared.form.Form.{Form}
 use Rattle.sf_model.specs.declared.form.Form.TheVariants.{Elf, Bare}
 use Rattle.sf_asm.specs.declared.input.Input.{Input}
@@ -24,8 +22,9 @@ use Rattle.sf_asm.specs.declared.input.InputBytes.{InputBytes}
 use Rattle.sf_asm.specs.declared.input.InputBytes.TheVariants as given
 use Rattle.elf_groups.specs.Dropped.{AreDroppedGroups}
 use Rattle.elf_groups.specs.Groups.{dropped_groups, seen_after}
-use Rattle.sf_asm.specs.Relocated.{relocations_of}
+use Rattle.frame_functions.specs.Relocated.{relocations_of}
 use Rattle.sf_bytes.specs.Steps.{◌>>=◌, named}
+use Rattle.frame_functions.specs.CallFrames.{CallFrames, bare_section}
 
 -- an input, seen without where its bytes lie in memory
 pub record Object : Type 0 where
@@ -57,21 +56,6 @@ machine_by (Bare arch) bytes = arch
 -- the machine of an input
 abbrev pub machine_of : Object → Arch
 machine_of object = machine_by object.form object.bytes
-
--- a call frame section as it is placed and relocated
-pub record CallFrames : Type 0 where
-  -- its number in its file, 0 for a bare one
-  pub number : ℕ
-  pub bytes : List ℕ
-  -- its address minus the shift of its file, and the shift
-  pub address : ℕ
-  pub shift : ℕ
-  -- what its relocations write, by rising place, or the first fault of theirs
-  pub relocations : Result (List RelocatedField) RelocFault
-
--- a bare section is at its base, and its fields stay as they are
-abbrev pub bare_section : (bytes : List ℕ) → (base : ℕ) → CallFrames
-bare_section bytes base = record { number = 0; bytes = bytes; address = base; shift = 0; relocations = Ok [] }
 
 -- ---- ELF files
 -- all sections at their addresses, where the COMDAT groups with these numbers are dropped

@@ -1,38 +1,12 @@
-//! Why inputs are refused.
+//! Why inputs are not gathered, and why no section is made of them.
 
 ghost use Rattle.std.specs.Prelude.{◌≡◌};
 
-use cfa_machine::MachineFault;
-use eh_records::RecordFault;
-use elf_place::PlaceFault;
-use elf_read::ElfFault;
-use elf_reloc::RelocFault;
+use frame_functions::AsmFault;
+use sf_functions::Limit;
+use sf_write::WriteFault;
 use std::alloc::{AllocError, AllocFailed};
 use thiserror::Error;
-
-/// Why one input is refused. The number before a fault is that of the call frame section, 0 for a bare
-/// one. Out of memory is `NoMemory`, and is never inside another variant.
-#[derive(Debug, Drop, Error)]
-pub enum AsmFault {
-    /// An ELF file can't be read, or is a core.
-    #[error("an ELF file can't be read")]
-    Elf(ElfFault),
-    /// A section of it can't be placed.
-    #[error("a section can't be placed")]
-    Place(PlaceFault),
-    /// A relocation of a call frame section can't be applied.
-    #[error("a relocation can't be applied")]
-    Reloc(u32, RelocFault),
-    /// A record can't be read, or its function has no start or end.
-    #[error("a call frame record can't be read")]
-    Record(u32, RecordFault),
-    /// A call frame instruction can't be read or run.
-    #[error("a call frame instruction can't be run")]
-    Machine(u32, MachineFault),
-    /// Memory ran out.
-    #[error("memory ran out")]
-    NoMemory,
-}
 
 /// Why inputs are not gathered: the first fault of the first faulty input, then these in their order.
 #[derive(Debug, Drop, Error)]
@@ -71,26 +45,6 @@ pub enum LinkFault {
     NoMemory,
 }
 
-impl From<AllocError> for AsmFault {
-    ghost use Rattle.sf_asm.specs.declared.fault.AsmFault.TheVariants.{NoMemory};
-
-    ghost from_gives = { λ _ e. e ≡ NoMemory };
-
-    fn from(_: AllocError) -> AsmFault {
-        AsmFault::NoMemory
-    }
-}
-
-impl<T: Drop> From<AllocFailed<T>> for AsmFault {
-    ghost use Rattle.sf_asm.specs.declared.fault.AsmFault.TheVariants.{NoMemory};
-
-    ghost from_gives = { λ _ e. e ≡ NoMemory };
-
-    fn from(_: AllocFailed<T>) -> AsmFault {
-        AsmFault::NoMemory
-    }
-}
-
 impl From<AllocError> for GatherFault {
     ghost use Rattle.sf_asm.specs.declared.fault.GatherFault.TheVariants.{NoMemory};
 
@@ -108,5 +62,45 @@ impl<T: Drop> From<AllocFailed<T>> for GatherFault {
 
     fn from(_: AllocFailed<T>) -> GatherFault {
         GatherFault::NoMemory
+    }
+}
+
+impl From<Limit> for GatherFault {
+    ghost use Rattle.sf_asm.specs.Linking.{fault_of_limit};
+
+    ghost from_gives = { λ limit e. e ≡ fault_of_limit limit };
+
+    fn from(limit: Limit) -> GatherFault {
+        match limit {
+            Limit::Functions => GatherFault::TooManyFunctions,
+            Limit::Rows => GatherFault::TooManyRows,
+        }
+    }
+}
+
+impl From<GatherFault> for LinkFault {
+    ghost use Rattle.sf_asm.specs.Fault.{wraps_gathering};
+
+    ghost from_gives = { λ fault e. e ≡ wraps_gathering fault };
+
+    /// Out of memory is not wrapped.
+    fn from(fault: GatherFault) -> LinkFault {
+        match fault {
+            GatherFault::NoMemory => LinkFault::NoMemory,
+            _ => LinkFault::Gather(fault),
+        }
+    }
+}
+
+impl From<WriteFault> for LinkFault {
+    ghost use Rattle.sf_asm.specs.Fault.{wraps_writing};
+
+    ghost from_gives = { λ fault e. e ≡ wraps_writing fault };
+
+    fn from(fault: WriteFault) -> LinkFault {
+        match fault {
+            WriteFault::OutOfReach(start) => LinkFault::OutOfReach(start),
+            WriteFault::NoMemory => LinkFault::NoMemory,
+        }
     }
 }

@@ -2,22 +2,21 @@
 
 ghost use Rattle.std.specs.Prelude.{◌≡◌, ◌≤◌, ◌<◌, ◌^◌, All, length, map, Ok, None, IfOk, IfErr, IsTrue};
 ghost use Rattle.std.specs.Option.{option_map};
-ghost use Rattle.sf_asm.specs.Entry.{IsSound, spans_of};
-ghost use Rattle.sf_asm.specs.Answers.{AreTogether, IsFirstGathered, LendsAll};
+ghost use Rattle.frame_functions.specs.Entry.{IsSound, spans_of};
+ghost use Rattle.frame_functions.specs.Answers.{LendsAll};
+ghost use Rattle.sf_asm.specs.Answers.{AreTogether, IsFirstGathered};
 ghost use Rattle.sf_asm.specs.Functions.{functions_of, object_of, unless};
 ghost use Rattle.sf_asm.specs.Inputs.{HaveMachine, first_item as item_of_first};
-ghost use Rattle.sf_asm.specs.Linking.{Gathers, InOrder, functions_fault, overlap_fault, overlap_in};
+ghost use Rattle.sf_asm.specs.Linking.{Gathers, functions_fault, overlap_fault, overlap_in};
 ghost use Rattle.sf_asm.specs.Sources.{AreWithSources};
 ghost use Rattle.sf_asm.specs.Fault.{is_gather_answered};
 ghost use Rattle.sf_write.specs.Stored.{IsStored, stored_in};
 
-use crate::entries::{InputFunctions, OrderedEntries};
 use crate::fault::GatherFault;
 use crate::input::Input;
-use crate::inputs::{one_machine, read_all};
+use crate::inputs::{AllFunctions, one_machine, read_all};
 use crate::overlaps::Overlaps;
-use crate::read::AllFunctions;
-use crate::sources::Sources;
+use frame_functions::{InputFunctions, OrderedEntries, Sources};
 use sf_model::Arch;
 use std::alloc::Global;
 

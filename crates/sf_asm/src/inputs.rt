@@ -2,21 +2,31 @@
 
 ghost use Rattle.std.specs.Prelude.{◌≡◌, ◌⊎◌, ◌≤◌, ◌<◌, ◌^◌, ℕ, List, All, length, map, not, Ok, Err, IfOk, IfErr, OnOk, position};
 ghost use Rattle.sf_model.specs.declared.machine.Arch.{Arch as machine};
-ghost use Rattle.sf_asm.specs.Answers.{seen_as};
+ghost use Rattle.frame_functions.specs.Answers.{seen_as};
 ghost use Rattle.sf_asm.specs.declared.fault.GatherFault.TheVariants.{Input as RefusedInput, NoMemory};
 ghost use Rattle.sf_asm.specs.Fault.{wraps_input};
-ghost use Rattle.sf_asm.specs.Functions.{Function, functions_of, machine_of, named, object_functions, object_of, seen_behind, unless};
+ghost use Rattle.frame_functions.specs.Functions.{Function};
+ghost use Rattle.sf_asm.specs.Functions.{functions_of, machine_of, named, object_functions, object_of, seen_behind, unless};
 ghost use Rattle.sf_asm.specs.Inputs.{is_same, mixed_among, with_before};
-ghost use Rattle.sf_asm.specs.ReadSoFar.{AreReadSoFar, AreSound, ReadsAll};
+ghost use Rattle.frame_functions.specs.ReadSoFar.{AreReadSoFar, AreSound, ReadsAll};
 ghost use Rattle.elf_groups.specs.SeenSignatures.{HasSeen};
 
-use crate::fault::{AsmFault, GatherFault};
+use crate::fault::GatherFault;
 use crate::input::Input;
-use crate::read::{AllFunctions, ReadFunctions};
 use crate::reading::read_input;
+use frame_functions::{AsmFault, ReadFunctions};
 use elf_groups::SeenSignatures;
 use sf_model::Arch;
 use std::alloc::Global;
+
+/// The functions that were read of all inputs.
+#[derive(Drop)]
+pub struct AllFunctions<'a> {
+    /// The machine of each input.
+    pub machines: Vec<Arch>,
+    /// The functions.
+    pub read: ReadFunctions<'a>,
+}
 
 /// Wraps a fault of an input. `NoMemory` is passed on unwrapped.
 fn input_fault(item: u32, fault: AsmFault) -> GatherFault

@@ -7,20 +7,22 @@ ghost use Rattle.sf_model.specs.declared.recovery.Regs.{Regs};
 ghost use Rattle.sf_model.specs.Memory.{Region};
 ghost use Rattle.sf_model.specs.Walk.{ThreadState, recover_by_rows, section_walk};
 ghost use Rattle.sf_express.specs.Alike.{defined};
-ghost use Rattle.sf_asm.specs.declared.entry.Entry.{Entry};
+ghost use Rattle.frame_functions.specs.declared.entry.Entry.{Entry};
 ghost use Rattle.sf_asm.specs.declared.fault.LinkFault.{LinkFault};
 ghost use Rattle.sf_asm.specs.Accepted.{CanBeGathered, IsAccepted};
-ghost use Rattle.sf_asm.specs.Entry.{kept_of, spans_of};
+ghost use Rattle.frame_functions.specs.Entry.{kept_of, spans_of};
 ghost use Rattle.eh_records.specs.Step.{PointerField};
 ghost use Rattle.elf_place.specs.Views.{Placing};
 ghost use Rattle.elf_reloc.specs.Applied.{applied_to};
-ghost use Rattle.sf_asm.specs.Relocated.{applied_by, pointer_slot};
+ghost use Rattle.frame_functions.specs.Relocated.{applied_by, pointer_slot};
 ghost use Rattle.sf_asm.specs.Faithful.{dwarf_walk, recovered_at};
 ghost use Rattle.sf_asm.specs.Described.{Describe};
-ghost use Rattle.sf_asm.specs.Functions.{Function, Object, functions_of};
+ghost use Rattle.frame_functions.specs.Functions.{Function};
+ghost use Rattle.sf_asm.specs.Functions.{Object, functions_of};
 ghost use Rattle.sf_asm.specs.declared.fault.GatherFault.{GatherFault as gather_fault};
-ghost use Rattle.sf_asm.specs.Kept.{entry_of};
-ghost use Rattle.sf_asm.specs.Linking.{Gathers, InOrder, Links, overlap_in};
+ghost use Rattle.frame_functions.specs.Kept.{entry_of};
+ghost use Rattle.frame_functions.specs.Order.{InOrder};
+ghost use Rattle.sf_asm.specs.Linking.{Gathers, Links, overlap_in};
 
 /// States that, if no two functions overlap, the kept ones by rising start recover at each address what DWARF's rules
 /// (DWARF 5, section 6.4.1) recover there in the kept function that has the address, for all registers and memory. If no

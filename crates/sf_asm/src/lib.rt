@@ -18,43 +18,25 @@
 //! addresses of all; the section of one input; and the content of the row at an address, in any of the functions.
 #![tactic(auto)]
 
-mod call_frame_section;
 mod elf;
-mod entries;
-mod entry;
 mod fault;
 mod gathering;
-mod initial_rows;
 mod input;
 mod inputs;
-mod keyed_content;
 mod laws;
-mod lent;
 mod linked;
 mod list_forms;
 mod notices;
-mod numbers;
 mod overlaps;
-mod overlay;
-mod pieces;
-mod read;
 mod reading;
-mod section;
-mod source;
-mod sources;
 
-pub use entries::{InputFunctions, KeptFunctions};
-pub use fault::{AsmFault, GatherFault, LinkFault};
+pub use fault::{GatherFault, LinkFault};
 pub use gathering::{WithSources, gather_together, gather_with_sources};
 pub use input::{Input, InputBytes};
-pub use keyed_content::KeyedContent;
 pub use laws::{
     accepted_inputs_are_linked, functions_are_described, inputs_that_can_be_gathered_are,
     kept_functions_recover_alike, linking_comes_to_one_result, relocations_of_sections_are_applied,
     walks_are_alike,
 };
-pub use linked::Linked;
+pub use linked::{Linked, link_gathered};
 pub use list_forms::{Gathered, assemble, gather, row_at};
-pub use pieces::content_pieces;
-pub use source::Source;
-pub use sources::Sources;

@@ -10,29 +10,27 @@ ghost use Rattle.sf_express.specs.Pieces.{ArePieces, AreSaidBy, piece_of_row};
 ghost use Rattle.sf_asm.specs.declared.fault.GatherFault.TheVariants as gather_fault;
 ghost use Rattle.sf_asm.specs.Accepted.{CanBeGathered};
 ghost use Rattle.sf_asm.specs.Answers.{AreGathered, IsAssembled, IsFirstGathered, IsFirstLinked};
-ghost use Rattle.sf_asm.specs.ContentAt.{RowAt, SaysUpTo, form_content, said_in};
+ghost use Rattle.frame_functions.specs.ContentAt.{RowAt, SaysUpTo, form_content, said_in};
 ghost use Rattle.sf_asm.specs.Described.{Describe};
-ghost use Rattle.sf_asm.specs.Entry.{kept_by_item, omitted_of, spans_of};
-ghost use Rattle.sf_asm.specs.Faithful.{holds_address};
+ghost use Rattle.frame_functions.specs.Entry.{kept_by_item, omitted_of, spans_of};
+ghost use Rattle.frame_functions.specs.Functions.{holds_address, Function};
 ghost use Rattle.sf_asm.specs.Fault.{is_answered, is_gather_answered};
-ghost use Rattle.sf_asm.specs.Functions.{Function, object_of};
+ghost use Rattle.sf_asm.specs.Functions.{object_of};
 ghost use Rattle.sf_asm.specs.Inputs.{HaveMachine};
-ghost use Rattle.sf_asm.specs.Sources.{AreWithSources, source_function};
+ghost use Rattle.frame_functions.specs.Sources.{source_function};
+ghost use Rattle.sf_asm.specs.Sources.{AreWithSources};
 ghost use Rattle.sf_write.specs.Stored.{IsStored, stored_in};
 
-use crate::entries::{KeptFunctions, OrderedEntries};
 use crate::fault::{GatherFault, LinkFault};
 use crate::gathering::{WithSources, first_item, gather_together, gather_with_sources, ordered};
 use crate::input::Input;
-use crate::linked::Linked;
-use crate::pieces::content_pieces;
-use crate::source::Source;
-use crate::sources::Sources;
+use crate::linked::{Linked, link_gathered};
+use frame_functions::{KeptFunctions, OrderedEntries, Source, Sources, content_pieces};
 use cfa_machine::Runner;
 use sf_base::NoMemory;
 use sf_express::{Piece, piece_at, pieces_of_rows};
 use sf_model::{Arch, Content, Func, Key, Omitted, Span};
-use sf_write::{StoredList, StoredRows, WriteFault, write_stored};
+use sf_write::{StoredList, StoredRows};
 use std::alloc::{AllocError, Global};
 
 /// The functions of the inputs.
@@ -141,20 +139,8 @@ pub fn assemble(alloc: Global, input: &Input<'_>, at: u64) -> Result<Linked, Lin
     ensures fault { IfErr result (IsFirstLinked None (object_of input.now ∷ []) at) }
     ensures answered { IfErr result (λ fault. IsTrue (is_answered fault)) }
 {
-    let gathered = match gather_together(alloc, &[*input], None) {
-        Ok(gathered) => gathered,
-        Err(GatherFault::NoMemory) => return Err(LinkFault::NoMemory),
-        Err(fault) => return Err(LinkFault::Gather(fault)),
-    };
-    match write_stored(alloc, gathered.arch, at, &gathered.rows, &gathered.kept) {
-        Ok(section) => Ok(Linked {
-            section,
-            kept: gathered.kept.len() as u32,
-            omitted: gathered.omitted,
-        }),
-        Err(WriteFault::OutOfReach(start)) => Err(LinkFault::OutOfReach(start)),
-        Err(WriteFault::NoMemory) => Err(LinkFault::NoMemory),
-    }
+    let functions = gather_together(alloc, &[*input], None)?;
+    link_gathered(alloc, functions, at)
 }
 
 /// Returns whether a function of this start and size has an address.

@@ -1,16 +1,15 @@
 //! The functions of one input, in the order of its sections and records.
 
 ghost use Rattle.std.specs.Prelude.{◌≡◌, ◌<◌, ◌^◌, ℕ, List, [], ◌∷◌, length, IfOk, OnOk};
-ghost use Rattle.sf_asm.specs.Functions.{bare_section, machine_of, object_functions, object_of, sections_functions, seen_behind};
-ghost use Rattle.sf_asm.specs.ReadSoFar.{AreSound, ReadsMore};
+ghost use Rattle.frame_functions.specs.CallFrames.{bare_section};
+ghost use Rattle.frame_functions.specs.Functions.{sections_functions};
+ghost use Rattle.sf_asm.specs.Functions.{machine_of, object_functions, object_of, seen_behind};
+ghost use Rattle.frame_functions.specs.ReadSoFar.{AreSound, ReadsMore};
 ghost use Rattle.elf_groups.specs.SeenSignatures.{HasSeen};
 
-use crate::call_frame_section::CallFrameSection;
 use crate::elf::{read_file, read_linked};
-use crate::fault::AsmFault;
 use crate::input::{Input, InputBytes};
-use crate::read::ReadFunctions;
-use crate::section::read_section;
+use frame_functions::{AsmFault, CallFrameSection, ReadFunctions, read_section};
 use elf_groups::SeenSignatures;
 use sf_model::Arch;
 use std::alloc::Global;

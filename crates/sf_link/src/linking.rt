@@ -6,9 +6,8 @@ ghost use Rattle.sf_asm.specs.Answers.{IsFirstLinked, IsLinked};
 ghost use Rattle.sf_asm.specs.Fault.{is_answered};
 ghost use Rattle.sf_asm.specs.Functions.{object_of};
 
-use sf_asm::{GatherFault, Input, LinkFault, Linked, gather_together};
+use sf_asm::{Input, LinkFault, Linked, gather_together, link_gathered};
 use sf_model::Arch;
-use sf_write::{StoredList, WriteFault, write_stored};
 use std::alloc::Global;
 
 /// Makes the SFrame section of 1 to 512 inputs, for the address `at`. `before` is the machine of an item that
@@ -35,18 +34,6 @@ pub fn link(
     ensures fault { IfErr result (IsFirstLinked before (map object_of inputs.now) at) }
     ensures answered { IfErr result (λ fault. IsTrue (is_answered fault)) }
 {
-    let gathered = match gather_together(alloc, inputs, before) {
-        Ok(gathered) => gathered,
-        Err(GatherFault::NoMemory) => return Err(LinkFault::NoMemory),
-        Err(fault) => return Err(LinkFault::Gather(fault)),
-    };
-    match write_stored(alloc, gathered.arch, at, &gathered.rows, &gathered.kept) {
-        Ok(section) => Ok(Linked {
-            section,
-            kept: gathered.kept.len() as u32,
-            omitted: gathered.omitted,
-        }),
-        Err(WriteFault::OutOfReach(start)) => Err(LinkFault::OutOfReach(start)),
-        Err(WriteFault::NoMemory) => Err(LinkFault::NoMemory),
-    }
+    let functions = gather_together(alloc, inputs, before)?;
+    link_gathered(alloc, functions, at)
 }

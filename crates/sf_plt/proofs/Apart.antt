@@ -8,10 +8,10 @@ use Rattle.std.proofs.lemmas.Bool.Decides.{nat_tests}
 use Rattle.std.proofs.lemmas.List.Elements.{filter-append}
 use Rattle.sf_model.specs.declared.content.Content.{Content}
 use Rattle.sf_model.specs.declared.function.Func.{Func}
-use Rattle.sf_asm.specs.Entry.{kept_of}
-use Rattle.sf_asm.specs.Functions.{Function}
-use Rattle.sf_asm.specs.Kept.{entry_of}
-use Rattle.sf_asm.specs.Order.{are_apart}
+use Rattle.frame_functions.specs.Entry.{kept_of}
+use Rattle.frame_functions.specs.Functions.{Function}
+use Rattle.frame_functions.specs.Kept.{entry_of}
+use Rattle.frame_functions.specs.Order.{are_apart}
 use Rattle.sf_model.proofs.StableOrder.{NoneBelow, tied, tied_means, one_order_of}
 use Rattle.sf_plt.specs.Plt.{plt_functions}
 use Rattle.sf_plt.specs.Sorting.{func_start}

@@ -11,11 +11,11 @@ use Rattle.sf_model.specs.declared.omission.Reason.TheVariants.{EmptyRange, Size
 use Rattle.cfa_machine.specs.Registers.{return_address}
 use Rattle.sf_express.specs.Expressed.{reason_of}
 use Rattle.sf_express.specs.Runs.{expressed, function_of, omission_of, unless_omitted, first_against, whole_or_row}
-use Rattle.sf_asm.specs.declared.entry.Expressed.{Expressed}
-use Rattle.sf_asm.specs.declared.entry.Expressed.TheVariants as outcome
-use Rattle.sf_asm.specs.Entry.{kept_in, kept_of}
-use Rattle.sf_asm.specs.Functions.{Function}
-use Rattle.sf_asm.specs.Kept.{entry_of, facts_of, is_kept, kept_functions, omitted_functions, outcome_by, says_of}
+use Rattle.frame_functions.specs.declared.entry.Expressed.{Expressed}
+use Rattle.frame_functions.specs.declared.entry.Expressed.TheVariants as outcome
+use Rattle.frame_functions.specs.Entry.{kept_in, kept_of}
+use Rattle.frame_functions.specs.Functions.{Function}
+use Rattle.frame_functions.specs.Kept.{entry_of, facts_of, is_kept, kept_functions, omitted_functions, outcome_by, says_of}
 use Rattle.sf_plt.specs.Plt.{initial_content, is_plt, plt_functions}
 use Rattle.sf_plt.specs.Written.{first_entry, later_entries, pair_by, plt_pair, written_as, written_functions}
 use Rattle.sf_plt.proofs.Form.{plt_form}

@@ -3,7 +3,8 @@ use Rattle.std.proofs.Common.{ℕ, List, Option, Result, sym, subst}
 use Rattle.sf_model.specs.declared.machine.Arch.{Arch}
 use Rattle.sf_asm.specs.declared.fault.GatherFault.{GatherFault}
 use Rattle.sf_asm.specs.declared.fault.LinkFault.{LinkFault}
-use Rattle.sf_asm.specs.Functions.{Function, Object}
+use Rattle.frame_functions.specs.Functions.{Function}
+use Rattle.sf_asm.specs.Functions.{Object}
 use Rattle.sf_asm.specs.Inputs.{all_functions}
 use Rattle.sf_asm.proofs.Described.{are_together, together}
 use Rattle.sf_plt.specs.Linking.{LinksPlts, LinksPltsFrom}

@@ -23,21 +23,22 @@ use Rattle.sf_write.specs.Section.{table_of}
 use Rattle.sf_functions.specs.Limits.{exceeded}
 use Rattle.sf_functions.specs.Order.{IsInOrder}
 use Rattle.sf_functions.proofs.LimitsHeld as limits
-use Rattle.sf_asm.specs.declared.entry.Entry.{Entry}
-use Rattle.sf_asm.specs.declared.entry.Expressed.{Expressed}
+use Rattle.frame_functions.specs.declared.entry.Entry.{Entry}
+use Rattle.frame_functions.specs.declared.entry.Expressed.{Expressed}
 use Rattle.sf_asm.specs.declared.fault.GatherFault.{GatherFault}
 use Rattle.sf_asm.specs.declared.fault.GatherFault.TheVariants as gather
 use Rattle.sf_asm.specs.Answers.{IsFirstGathered}
 use Rattle.sf_asm.specs.declared.fault.LinkFault.{LinkFault}
 use Rattle.sf_asm.specs.declared.fault.LinkFault.TheVariants as link
-use Rattle.sf_asm.specs.Entry.{kept_of, omitted_of, spans_of}
-use Rattle.sf_asm.specs.Functions.{Function, Object, unless}
-use Rattle.sf_asm.specs.Inputs.{HaveMachine, all_functions, mixed_fault}
-use Rattle.sf_asm.specs.Inputs.{first_item}
-use Rattle.sf_asm.specs.Kept.{entry_of, is_kept, kept_functions, omitted_functions}
+use Rattle.frame_functions.specs.Entry.{kept_of, omitted_of, spans_of}
+use Rattle.frame_functions.specs.Functions.{Function}
+use Rattle.sf_asm.specs.Functions.{Object, unless}
+use Rattle.sf_asm.specs.Inputs.{HaveMachine, all_functions, mixed_fault, first_item}
+use Rattle.frame_functions.specs.Kept.{entry_of, is_kept, kept_functions, omitted_functions}
 use Rattle.sf_asm.specs.Linking.{Gathers, GathersFrom, fault_of_limit, functions_fault, limits_fault, or_later, overlap_fault, overlap_in, unless_fault as unless_gathered}
-use Rattle.sf_asm.specs.Order.{are_apart, entry_rows, rows_of}
-use Rattle.sf_asm.specs.Sources.{AreByStart, AreWithSources}
+use Rattle.frame_functions.specs.Order.{are_apart, entry_rows, rows_of}
+use Rattle.frame_functions.specs.Sources.{AreByStart, function_start}
+use Rattle.sf_asm.specs.Sources.{AreWithSources}
 use Rattle.sf_asm.proofs.ByStart.{are_by_start, ordered_are, sorted_functions}
 use Rattle.sf_asm.proofs.Described.{described, from_gathers}
 use Rattle.sf_asm.proofs.GatheredInputs.{are_read, by_parts}
@@ -45,9 +46,9 @@ use Rattle.sf_asm.proofs.Kept.{not_overlapping_apart}
 use Rattle.sf_asm.proofs.Limits.{few_functions}
 use Rattle.sf_asm.proofs.OneMachine.{machine_of_functions}
 use Rattle.sf_model.proofs.StableOrder.{one_order_of}
-use Rattle.sf_asm.specs.Sources.{function_start}
 use Rattle.sf_plt.specs.Answers.{IsFirstPltLinked, IsPltLinkedWith, others_in, plt_span}
-use Rattle.sf_plt.specs.Linking.{LinksPlts, LinksPltsFrom, further_fault, plt_link_fault, plts_fault, unless_fault, wraps_gathering}
+use Rattle.sf_plt.specs.Linking.{LinksPlts, LinksPltsFrom, further_fault, plt_link_fault, plts_fault, unless_fault}
+use Rattle.sf_asm.specs.Fault.{wraps_gathering}
 use Rattle.sf_plt.specs.Plt.{is_plt, plt_functions}
 use Rattle.sf_plt.specs.Sorting.{func_start}
 use Rattle.sf_plt.specs.Written.{first_entry, later_entries, plt_pair, written_functions}

@@ -12,8 +12,8 @@ use Rattle.sf_model.specs.declared.machine.Base.TheVariants.{Fp, Sp}
 use Rattle.sf_model.specs.declared.omission.Reason.TheVariants.{EmptyRange, SizeTooLarge, ReturnColumn, SignalFrame}
 use Rattle.cfa_machine.specs.Registers.{return_address}
 use Rattle.sf_express.specs.Expressed.{reason_of, same_base}
-use Rattle.sf_asm.specs.Functions.{Function}
-use Rattle.sf_asm.specs.Kept.{facts_of}
+use Rattle.frame_functions.specs.Functions.{Function}
+use Rattle.frame_functions.specs.Kept.{facts_of}
 use Rattle.sf_plt.specs.Plt.{counts_from_stack, initial_content, is_amd64, is_plt, is_plt_text, without_nops}
 
 pub both : (a b : Bool) → (a && b) ≡ true → (a ≡ true) × (b ≡ true)

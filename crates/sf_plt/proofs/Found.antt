@@ -13,10 +13,10 @@ use Rattle.sf_model.specs.Lookup.{contains, found_at, row_in_first}
 use Rattle.sf_model.specs.Memory.{Region}
 use Rattle.sf_model.specs.Walk.{recover_by_rows}
 use Rattle.cfa_machine.specs.Recovery.{RuleRecovery}
-use Rattle.sf_asm.specs.Faithful.{holds_address, recovered_at, recovered_in}
-use Rattle.sf_asm.specs.Functions.{Function}
-use Rattle.sf_asm.specs.Kept.{entry_of, is_kept, kept_functions}
-use Rattle.sf_asm.specs.Order.{are_apart}
+use Rattle.frame_functions.specs.Functions.{holds_address, Function}
+use Rattle.sf_asm.specs.Faithful.{recovered_at, recovered_in}
+use Rattle.frame_functions.specs.Kept.{entry_of, is_kept, kept_functions}
+use Rattle.frame_functions.specs.Order.{are_apart}
 use Rattle.sf_asm.proofs.Agreeing.{function_recovers}
 use Rattle.sf_model.proofs.Unions.{Member, OnePasses}
 use Rattle.sf_asm.proofs.Finding.{found_alike}

@@ -21,8 +21,8 @@ use Rattle.cfa_machine.proofs.Faults.{fault_of, rows_by-fault}
 use Rattle.cfa_machine.proofs.Says.{SaysAllIfOk, rows_by-say}
 use Rattle.sf_express.specs.Expressed.{reason_of, same_base}
 use Rattle.sf_express.specs.Rules.{content_of}
-use Rattle.sf_asm.specs.Functions.{Function}
-use Rattle.sf_asm.specs.Kept.{facts_of}
+use Rattle.frame_functions.specs.Functions.{Function}
+use Rattle.frame_functions.specs.Kept.{facts_of}
 use Rattle.sf_plt.specs.Plt.{content_unless, counts_from_stack, initial_content, is_amd64, is_plt, is_plt_text, without_nops}
 
 -- ---- the row

@@ -9,11 +9,12 @@ use Rattle.sf_asm.specs.declared.fault.GatherFault.{GatherFault}
 use Rattle.sf_asm.specs.declared.fault.LinkFault.{LinkFault}
 use Rattle.sf_asm.specs.declared.fault.LinkFault.TheVariants.{Gather, OutOfReach}
 use Rattle.sf_asm.specs.Fault.{is_answered, is_gather_refusal, is_wrapped_answered}
-use Rattle.sf_asm.specs.Functions.{Function, Object}
+use Rattle.frame_functions.specs.Functions.{Function}
+use Rattle.sf_asm.specs.Functions.{Object}
 use Rattle.sf_asm.specs.Inputs.{all_functions}
-use Rattle.sf_asm.specs.Kept.{entry_of}
+use Rattle.frame_functions.specs.Kept.{entry_of}
 use Rattle.sf_asm.specs.Linking.{fault_of_limit, functions_fault, or_later}
-use Rattle.sf_asm.specs.Order.{entry_rows}
+use Rattle.frame_functions.specs.Order.{entry_rows}
 use Rattle.sf_asm.proofs.NeverMemory.{FaultIn, FaultIs, all_refused, any_mapped, earlier, functions_tried, limit_answered, mapped, refusal_or_limit, where_none}
 use Rattle.sf_plt.specs.Answers.{IsFirstPltLinked}
 use Rattle.sf_plt.specs.Linking.{LinksPltsFrom, plt_link_fault, plts_fault}

@@ -33,9 +33,8 @@ use Rattle.sf_express.specs.Rules.{◌>>=◌, base_of, cfa_at, cfa_from, cfa_con
 use Rattle.sf_express.proofs.Alike.{recovers_alike}
 use Rattle.sf_express.proofs.Column.{own_column}
 use Rattle.sf_express.proofs.Writable.{made}
-use Rattle.sf_asm.specs.Faithful.{holds_address}
-use Rattle.sf_asm.specs.Functions.{Function}
-use Rattle.sf_asm.specs.Kept.{facts_of, full_row}
+use Rattle.frame_functions.specs.Functions.{holds_address, Function}
+use Rattle.frame_functions.specs.Kept.{facts_of, full_row}
 use Rattle.sf_plt.specs.Plt.{content_unless, initial_content, is_plt, plt_frame_address, recovered_in_plt}
 use Rattle.sf_plt.specs.Written.{first_entry, later_entries, pair_by, plt_pair, row_saying}
 use Rattle.sf_plt.specs.Expression.{expression_value}

@@ -12,8 +12,8 @@ use Rattle.cfa_machine.specs.declared.rule.CfaRule.TheVariants as cfa
 use Rattle.cfa_machine.specs.RowAtOffset.{UnwindState, after_instruction, state_before, initial_by, offset_behind, row_at_offset}
 use Rattle.cfa_machine.specs.Effects.{effect_by}
 use Rattle.cfa_machine.specs.FullRow.{FullRow, no_row, cfa_offset}
-use Rattle.sf_asm.specs.Functions.{Function}
-use Rattle.sf_asm.specs.Kept.{full_row}
+use Rattle.frame_functions.specs.Functions.{Function}
+use Rattle.frame_functions.specs.Kept.{full_row}
 use Rattle.sf_plt.specs.Plt.{is_nop, is_plt_text, without_nops}
 use Rattle.sf_plt.specs.Text.{follows, is_advance, is_text_at, is_cfa_offset, is_expression}
 use Rattle.sf_plt.proofs.Form.{both}

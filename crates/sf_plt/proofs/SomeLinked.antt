@@ -20,13 +20,14 @@ use Rattle.sf_write.proofs.NumbersFit.{some_section}
 use Rattle.sf_asm.specs.declared.fault.GatherFault.{GatherFault}
 use Rattle.sf_asm.specs.declared.fault.LinkFault.{LinkFault}
 use Rattle.sf_asm.specs.declared.fault.LinkFault.TheVariants as link
-use Rattle.sf_asm.specs.Entry.{omitted_of, spans_of}
-use Rattle.sf_asm.specs.Functions.{Function, Object, functions_of}
+use Rattle.frame_functions.specs.Entry.{omitted_of, spans_of}
+use Rattle.frame_functions.specs.Functions.{Function}
+use Rattle.sf_asm.specs.Functions.{Object, functions_of}
 use Rattle.sf_asm.specs.Inputs.{HaveMachine, all_functions, first_item, mixed_fault}
-use Rattle.sf_asm.specs.Kept.{entry_of, facts_of, kept_functions, omitted_functions}
+use Rattle.frame_functions.specs.Kept.{entry_of, facts_of, kept_functions, omitted_functions}
 use Rattle.sf_asm.specs.Linking.{functions_fault, limits_fault, or_later, overlap_in}
-use Rattle.sf_asm.specs.Order.{are_apart}
-use Rattle.sf_asm.specs.Sources.{AreByStart}
+use Rattle.frame_functions.specs.Order.{are_apart}
+use Rattle.frame_functions.specs.Sources.{AreByStart}
 use Rattle.sf_asm.proofs.ByStart.{are_by_start, sorted_functions}
 use Rattle.sf_asm.proofs.Described.{describe}
 use Rattle.sf_asm.proofs.GatheredInputs.{parts_of}

@@ -4,7 +4,7 @@ use Rattle.std.proofs.Common.{List, sym, ap, ◌∙◌}
 use Rattle.sf_model.specs.declared.function.Func.{Func}
 use Rattle.sf_model.specs.Walk.{recover_by_rows, section_walk, walk_by}
 use Rattle.sf_asm.specs.Faithful.{if_whole}
-use Rattle.sf_asm.specs.Functions.{Function}
+use Rattle.frame_functions.specs.Functions.{Function}
 use Rattle.sf_asm.proofs.Walking.{frames_alike, undone}
 use Rattle.sf_plt.specs.Answers.{RecoversWithPlts, WalksWithPlts}
 use Rattle.sf_plt.specs.Written.{recover_with_plts, walk_with_plts}

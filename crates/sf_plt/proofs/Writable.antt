@@ -24,7 +24,7 @@ use Rattle.cfa_machine.specs.Effects.{effect_by}
 use Rattle.cfa_machine.specs.FirstFault.{define_fault, first_fault, initial_fault, or_later}
 use Rattle.cfa_machine.specs.FullRow.{FullRow, no_row}
 use Rattle.sf_express.specs.Rules.{cfa_content, content_of, frame_pointer_content, is_minus_8, return_address_content, sign_state_check, stack_pointer_check}
-use Rattle.sf_asm.specs.Functions.{Function}
+use Rattle.frame_functions.specs.Functions.{Function}
 use Rattle.sf_plt.specs.Plt.{content_unless, initial_content, is_plt}
 use Rattle.sf_plt.specs.Written.{first_entry, later_entries, row_saying}
 use Rattle.sf_plt.proofs.Form.{plt_form}

@@ -17,11 +17,12 @@ use Rattle.sf_express.specs.Alike.{defined}
 use Rattle.sf_asm.specs.Described.{Describe}
 use Rattle.sf_asm.specs.declared.fault.LinkFault.{LinkFault}
 use Rattle.sf_asm.specs.declared.fault.LinkFault.TheVariants.{NoMemory}
-use Rattle.sf_asm.specs.Entry.{omitted_of}
-use Rattle.sf_asm.specs.Functions.{Function, Object}
+use Rattle.frame_functions.specs.Entry.{omitted_of}
+use Rattle.frame_functions.specs.Functions.{Function}
+use Rattle.sf_asm.specs.Functions.{Object}
 use Rattle.sf_asm.specs.Inputs.{HaveMachine, first_item}
-use Rattle.sf_asm.specs.Kept.{entry_of, kept_functions, omitted_functions}
-use Rattle.sf_asm.specs.Sources.{AreByStart}
+use Rattle.frame_functions.specs.Kept.{entry_of, kept_functions, omitted_functions}
+use Rattle.frame_functions.specs.Sources.{AreByStart}
 use Rattle.sf_plt.specs.Linking.{LinksPlts, plt_link_fault}
 use Rattle.sf_plt.specs.Plt.{is_plt, plt_functions}
 use Rattle.sf_plt.specs.Written.{recovered_with_plts, walk_with_plts, written_functions}

@@ -6,15 +6,15 @@ use Rattle.sf_model.specs.declared.machine.Arch.{Arch}
 use Rattle.sf_write.specs.Reach.{first_out_of_reach}
 use Rattle.sf_functions.specs.Limits.{exceeded}
 use Rattle.sf_asm.specs.declared.fault.GatherFault.{GatherFault}
-use Rattle.sf_asm.specs.declared.fault.GatherFault.TheVariants.{NoMemory as GatherNoMemory}
 use Rattle.sf_asm.specs.declared.fault.LinkFault.{LinkFault}
-use Rattle.sf_asm.specs.declared.fault.LinkFault.TheVariants.{Gather, OutOfReach, NoMemory}
-use Rattle.sf_asm.specs.Functions.{Function, Object}
+use Rattle.sf_asm.specs.declared.fault.LinkFault.TheVariants.{Gather, OutOfReach}
+use Rattle.frame_functions.specs.Functions.{Function}
+use Rattle.sf_asm.specs.Functions.{Object}
 use Rattle.sf_asm.specs.Described.{DescribeTogether}
-use Rattle.sf_asm.specs.Kept.{entry_of}
+use Rattle.frame_functions.specs.Kept.{entry_of}
 use Rattle.sf_asm.specs.Linking.{fault_of_limit, functions_fault, or_later}
-use Rattle.sf_asm.specs.Order.{entry_rows}
-use Rattle.sf_asm.specs.Sources.{AreByStart}
+use Rattle.frame_functions.specs.Order.{entry_rows}
+use Rattle.frame_functions.specs.Sources.{AreByStart}
 use Rattle.sf_plt.specs.Plt.{plt_functions}
 use Rattle.sf_plt.specs.Written.{written_functions}
 pub use Rattle.sf_model.specs.Firsts.{unless_fault}
@@ -45,9 +45,3 @@ pub record LinksPlts (before : Option Arch) (objects : List Object) (at : ℕ) (
   pub given : Result (List Function) GatherFault
   pub described : DescribeTogether before objects given
   pub comes : LinksPltsFrom at given result
-
--- ---- Inside the crate
--- a fault of gathering as one of linking, in which out of memory has a fault of its own
-abbrev pub wraps_gathering : GatherFault → LinkFault
-wraps_gathering GatherNoMemory = NoMemory
-wraps_gathering fault = Gather fault

@@ -21,8 +21,8 @@ use Rattle.cfa_machine.specs.FullRow.{columns_of}
 use Rattle.cfa_machine.specs.Recovery.{RuleRecovery, frame_address_by, recovery_from}
 use Rattle.sf_express.specs.Expressed.{reason_of, same_base}
 use Rattle.sf_express.specs.Rules.{content_of}
-use Rattle.sf_asm.specs.Functions.{Function}
-use Rattle.sf_asm.specs.Kept.{facts_of, full_row, omitted_functions}
+use Rattle.frame_functions.specs.Functions.{Function}
+use Rattle.frame_functions.specs.Kept.{facts_of, full_row, omitted_functions}
 use Rattle.sf_plt.specs.Expression.{expression_value, plt_expression}
 
 -- ---- the functions

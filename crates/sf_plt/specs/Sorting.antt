@@ -1,8 +1,8 @@
 -- Inside the crate: functions in the order of their starts, and functions that are omitted, for the code that sorts them.
 use Rattle.std.specs.Prelude.{◌≡◌, ℕ, false, List, [], ◌∷◌}
 use Rattle.sf_model.specs.declared.function.Func.{Func}
-use Rattle.sf_asm.specs.Functions.{Function}
-use Rattle.sf_asm.specs.Kept.{is_kept}
+use Rattle.frame_functions.specs.Functions.{Function}
+use Rattle.frame_functions.specs.Kept.{is_kept}
 
 -- the function's start
 abbrev pub func_start : Func → ℕ

@@ -11,11 +11,11 @@ use Rattle.sf_model.specs.declared.rows.Row.{Row}
 use Rattle.sf_model.specs.Memory.{Region}
 use Rattle.sf_model.specs.Walk.{ThreadState, Listing, Recovering, walk_by}
 use Rattle.cfa_machine.specs.Recovery.{RuleRecovery}
-use Rattle.sf_asm.specs.declared.entry.Expressed.{Expressed}
-use Rattle.sf_asm.specs.declared.entry.Expressed.TheVariants.{Kept, LeftOut}
-use Rattle.sf_asm.specs.Faithful.{holds_address, if_whole, recovered_at}
-use Rattle.sf_asm.specs.Functions.{Function}
-use Rattle.sf_asm.specs.Kept.{entry_of}
+use Rattle.frame_functions.specs.declared.entry.Expressed.{Expressed}
+use Rattle.frame_functions.specs.declared.entry.Expressed.TheVariants.{Kept, LeftOut}
+use Rattle.frame_functions.specs.Functions.{holds_address, Function}
+use Rattle.sf_asm.specs.Faithful.{if_whole, recovered_at}
+use Rattle.frame_functions.specs.Kept.{entry_of}
 use Rattle.sf_plt.specs.Plt.{initial_content, is_plt, plt_functions, recovered_in_plt}
 
 -- ---- the two functions

@@ -2,16 +2,14 @@
 
 ghost use Rattle.std.specs.Prelude.{◌≡◌, ◌≤◌, ◌<◌, ◌^◌, All, length, map, IfOk, IfErr, IsTrue};
 ghost use Rattle.sf_model.specs.Section.{AreBytes};
-ghost use Rattle.sf_asm.specs.Fault.{is_answered};
+ghost use Rattle.sf_asm.specs.Fault.{is_answered, wraps_gathering};
 ghost use Rattle.sf_asm.specs.Functions.{object_of};
 ghost use Rattle.sf_plt.specs.Answers.{IsFirstPltLinked, IsPltLinked, IsPltLinkedWith};
-ghost use Rattle.sf_plt.specs.Linking.{wraps_gathering};
 
 use crate::limits::{Counts, check_tables};
 use crate::sorting::sort_out;
-use sf_asm::{
-    GatherFault, Input, InputFunctions, LinkFault, Sources, WithSources, gather_with_sources,
-};
+use frame_functions::{InputFunctions, Sources};
+use sf_asm::{GatherFault, Input, LinkFault, WithSources, gather_with_sources};
 use sf_base::NoMemory;
 use sf_functions::{count_rows, sort_by_start};
 use sf_model::{Arch, Omitted, Span};

@@ -1,10 +1,10 @@
 //! The two functions that are made of a procedure linkage table.
 
 ghost use Rattle.std.specs.Prelude.{◌≡◌, ◌<◌, ◌^◌, [], ◌∷◌, IfOk};
-ghost use Rattle.sf_asm.specs.Sources.{source_function};
+ghost use Rattle.frame_functions.specs.Sources.{source_function};
 ghost use Rattle.sf_plt.specs.Written as written;
 
-use sf_asm::Source;
+use frame_functions::Source;
 use sf_base::NoMemory;
 use sf_model::{Content, Func, Row, Rows, Shape};
 use std::alloc::Global;

@@ -4,9 +4,9 @@ ghost use Rattle.std.specs.Prelude.{◌≡◌, ◌++◌, ◌∷◌, [], All, Som
 ghost use Rattle.std.specs.List.{filter, flat_map};
 ghost use Rattle.sf_model.specs.Function.{IsWritable};
 ghost use Rattle.sf_write.specs.Stored.{IsStored, stored_in};
-ghost use Rattle.sf_asm.specs.Entry.{omitted_of};
-ghost use Rattle.sf_asm.specs.Kept.{entry_of};
-ghost use Rattle.sf_asm.specs.Sources.{source_function};
+ghost use Rattle.frame_functions.specs.Entry.{omitted_of};
+ghost use Rattle.frame_functions.specs.Kept.{entry_of};
+ghost use Rattle.frame_functions.specs.Sources.{source_function};
 ghost use Rattle.sf_plt.specs.Answers.{others_in, plt_span};
 ghost use Rattle.sf_plt.specs.Plt.{initial_content, is_plt};
 ghost use Rattle.sf_plt.specs.Sorting.{AreOmitted};
@@ -14,7 +14,7 @@ ghost use Rattle.sf_plt.specs.Written.{plt_pair};
 
 use crate::pair::{first_entry, later_entries};
 use crate::table::table_content;
-use sf_asm::{KeptFunctions, Source, Sources};
+use frame_functions::{KeptFunctions, Source, Sources};
 use sf_base::NoMemory;
 use sf_model::{Arch, Content, Func, Omitted, Span};
 use sf_write::{StoredFunction, StoredList, StoredRows};

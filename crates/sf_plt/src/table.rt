@@ -2,12 +2,12 @@
 
 ghost use Rattle.std.specs.Prelude.{◌≡◌, ◌==◌, ◌%◌, ◌&&◌, nat_lt, is_none, None, if◌then◌else◌};
 ghost use Rattle.sf_express.specs.Expressed.{reason_of};
-ghost use Rattle.sf_asm.specs.Kept.{facts_of};
-ghost use Rattle.sf_asm.specs.Sources.{source_function};
+ghost use Rattle.frame_functions.specs.Kept.{facts_of};
+ghost use Rattle.frame_functions.specs.Sources.{source_function};
 ghost use Rattle.sf_plt.specs.Plt as plt;
 
 use crate::text::is_plt_text;
-use sf_asm::Source;
+use frame_functions::Source;
 use sf_express::content_at;
 use sf_model::{Arch, Base, Content};
 

@@ -1,7 +1,7 @@
 -- Inputs that can be linked are those of which a run of `link` refuses nothing.
 use Rattle.std.proofs.Common.{◌≡◌, ℕ, List, Option, Some, None, Result, Ok, Err, refl, sym, subst}
 use Rattle.sf_asm.specs.Accepted.{IsAccepted}
-use Rattle.sf_asm.specs.declared.entry.Entry.{Entry}
+use Rattle.frame_functions.specs.declared.entry.Entry.{Entry}
 use Rattle.sf_asm.specs.declared.fault.GatherFault.TheVariants as gather
 use Rattle.sf_asm.specs.declared.fault.LinkFault.{LinkFault}
 use Rattle.sf_asm.specs.declared.fault.LinkFault.TheVariants as link

@@ -40,15 +40,17 @@ use Rattle.sf_express.specs.Expressed.{reason_of}
 use Rattle.sf_express.specs.Rules.{◌>>=◌ as ◌>>>◌, base_of, cfa_from, cfa_content, content_of, fits_i32, frame_pointer_content, frame_pointer_at, is_minus_8, narrowed, frame_pointer_needs_return_address, return_address_content, return_address_at, sign_state_check, stack_pointer_check}
 use Rattle.sf_express.specs.Runs.{Saying, begins, expressed, first_against, function_of, omission_of, row_there, rows_of, unless_omitted, whole_or_row}
 use Rattle.sf_express.proofs.Writable.{made}
-use Rattle.sf_asm.specs.declared.entry.Entry.{Entry}
-use Rattle.sf_asm.specs.declared.entry.Expressed.{Expressed}
-use Rattle.sf_asm.specs.declared.entry.Expressed.TheVariants.{Kept, LeftOut}
-use Rattle.sf_asm.specs.Entry.{IsSound, IsSoundOutcome, kept_in, kept_of}
-use Rattle.sf_asm.specs.Functions.{◌>>=◌, CallFrames, Function, Object, fault_in, function_at, function_in, functions_after, functions_in, functions_of, machine_of, named, object_functions, section_functions, sections_functions, seen_behind, sections_of, span_in, unless}
-use Rattle.sf_asm.specs.Kept.{entry_of, facts_of, outcome_by, says_of}
-use Rattle.sf_asm.specs.Relocated.{Values, on_pointers, patched_values}
-use Rattle.sf_asm.proofs.MadeRows.{first_of, made_of, outcome_is_sound, outcome_means}
-use Rattle.sf_asm.proofs.MadeRows.{rows_of as instruction_rows}
+use Rattle.frame_functions.specs.declared.entry.Entry.{Entry}
+use Rattle.frame_functions.specs.declared.entry.Expressed.{Expressed}
+use Rattle.frame_functions.specs.declared.entry.Expressed.TheVariants.{Kept, LeftOut}
+use Rattle.frame_functions.specs.Entry.{IsSound, IsSoundOutcome, kept_in, kept_of}
+use Rattle.frame_functions.specs.CallFrames.{CallFrames}
+use Rattle.frame_functions.specs.Functions.{Function, fault_in, function_at, function_in, functions_in, section_functions, sections_functions, span_in}
+use Rattle.sf_asm.specs.Functions.{◌>>=◌, Object, functions_after, functions_of, machine_of, named, object_functions, seen_behind, sections_of, unless}
+use Rattle.frame_functions.specs.Kept.{entry_of, facts_of, outcome_by, says_of}
+use Rattle.frame_functions.specs.Relocated.{Values, on_pointers, patched_values}
+use Rattle.frame_functions.proofs.MadeRows.{first_of, made_of, outcome_is_sound, outcome_means}
+use Rattle.frame_functions.proofs.MadeRows.{rows_of as instruction_rows}
 
 -- ---- steps
 -- what a step came to, and what came of it

@@ -9,7 +9,8 @@ use Rattle.sf_asm.specs.declared.fault.LinkFault.TheVariants as link_fault
 use Rattle.sf_asm.specs.Answers.{IsFirstLinked, IsLinked}
 use Rattle.sf_asm.specs.Linking.{Links, LinksFrom}
 use Rattle.sf_asm.specs.declared.fault.GatherFault.{GatherFault}
-use Rattle.sf_asm.specs.Functions.{Function, Object, functions_of}
+use Rattle.frame_functions.specs.Functions.{Function}
+use Rattle.sf_asm.specs.Functions.{Object, functions_of}
 use Rattle.sf_asm.specs.Inputs.{machines_of, mixed_fault, first_item}
 use Rattle.sf_asm.specs.Linking.{unless_fault}
 use Rattle.sf_asm.proofs.Described.{described, to_links}

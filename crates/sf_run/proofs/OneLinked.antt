@@ -12,15 +12,16 @@ use Rattle.sf_write.specs.Section.{table_of}
 use Rattle.sf_decode.specs.declared.fault.DecodeFault.{DecodeFault}
 use Rattle.elf_read.specs.Header.{arch_of}
 use Rattle.core_notes.specs.declared.fault.CoreFault.{CoreFault}
-use Rattle.sf_asm.specs.declared.entry.Entry.{Entry}
+use Rattle.frame_functions.specs.declared.entry.Entry.{Entry}
 use Rattle.sf_asm.specs.declared.fault.LinkFault.{LinkFault}
 use Rattle.sf_asm.specs.Answers.{IsLinked}
-use Rattle.sf_asm.specs.Entry.{kept_of, omitted_of}
-use Rattle.sf_asm.specs.Functions.{Function, Object}
+use Rattle.frame_functions.specs.Entry.{kept_of, omitted_of}
+use Rattle.frame_functions.specs.Functions.{Function}
+use Rattle.sf_asm.specs.Functions.{Object}
 use Rattle.sf_asm.specs.Inputs.{HaveMachine, first_item}
-use Rattle.sf_asm.specs.Kept.{entry_of, kept_functions, omitted_functions}
-use Rattle.sf_asm.specs.Linking.{InOrder}
-use Rattle.sf_asm.specs.Sources.{AreByStart}
+use Rattle.frame_functions.specs.Kept.{entry_of, kept_functions, omitted_functions}
+use Rattle.frame_functions.specs.Order.{InOrder}
+use Rattle.frame_functions.specs.Sources.{AreByStart}
 use Rattle.sf_asm.proofs.Described.{described}
 use Rattle.sf_asm.proofs.OneOrder.{one_order, one_result}
 use Rattle.sf_plt.specs.Answers.{IsPltLinked, others_in, plt_span}

@@ -6,10 +6,11 @@ use Rattle.sf_write.specs.Section.{table_of}
 use Rattle.sf_lookup.specs.declared.span.Span.{Span}
 use Rattle.sf_asm.specs.declared.fault.LinkFault.{LinkFault}
 use Rattle.sf_asm.specs.Described.{Describe}
-use Rattle.sf_asm.specs.Functions.{Function, Object}
+use Rattle.frame_functions.specs.Functions.{Function}
+use Rattle.sf_asm.specs.Functions.{Object}
 use Rattle.sf_asm.specs.Inputs.{HaveMachine}
-use Rattle.sf_asm.specs.Kept.{omitted_functions}
-use Rattle.sf_asm.specs.Sources.{AreByStart}
+use Rattle.frame_functions.specs.Kept.{omitted_functions}
+use Rattle.frame_functions.specs.Sources.{AreByStart}
 use Rattle.sf_asm.proofs.Described.{described}
 use Rattle.sf_plt.specs.Linking.{LinksPlts}
 use Rattle.sf_plt.specs.Written.{written_functions}

@@ -13,16 +13,18 @@ use Rattle.sf_write.proofs.NumbersFit.{some_section}
 use Rattle.elf_read.specs.Header.{arch_of}
 use Rattle.core_notes.specs.declared.fault.CoreFault.{CoreFault}
 use Rattle.sf_merge.proofs.Insertion.{moved, ordered, sorted, stable}
-use Rattle.sf_asm.specs.declared.entry.Entry.{Entry}
+use Rattle.frame_functions.specs.declared.entry.Entry.{Entry}
 use Rattle.sf_asm.specs.declared.fault.GatherFault.{GatherFault}
 use Rattle.sf_asm.specs.declared.fault.LinkFault.{LinkFault}
 use Rattle.sf_asm.specs.declared.fault.LinkFault.TheVariants.{Gather, OutOfReach}
 use Rattle.sf_asm.specs.Answers.{IsLinked}
-use Rattle.sf_asm.specs.Entry.{IsSound, kept_of, omitted_of}
-use Rattle.sf_asm.specs.Functions.{Function, Object, machine_of}
+use Rattle.frame_functions.specs.Entry.{IsSound, kept_of, omitted_of}
+use Rattle.frame_functions.specs.Functions.{Function}
+use Rattle.sf_asm.specs.Functions.{Object, machine_of}
 use Rattle.sf_asm.specs.Inputs.{HaveMachine, all_functions, first_item}
-use Rattle.sf_asm.specs.Kept.{entry_of}
-use Rattle.sf_asm.specs.Linking.{GathersFrom, InOrder, Links, LinksFrom, functions_fault, link_fault, or_later, start_of, unless_fault}
+use Rattle.frame_functions.specs.Kept.{entry_of}
+use Rattle.frame_functions.specs.Order.{InOrder, start_of}
+use Rattle.sf_asm.specs.Linking.{GathersFrom, Links, LinksFrom, functions_fault, link_fault, or_later, unless_fault}
 use Rattle.sf_asm.proofs.Accepting.{links_accepted}
 use Rattle.sf_asm.proofs.Described.{from_links, to_gathers, to_links}
 use Rattle.sf_asm.proofs.FaithfulSections.{linked}

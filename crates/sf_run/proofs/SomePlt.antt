@@ -8,8 +8,9 @@ use Rattle.sf_model.specs.Function.{IsWritable}
 use Rattle.sf_write.specs.Numbers.{NumbersFit}
 use Rattle.cfa_machine.specs.Columns.{row_from}
 use Rattle.sf_asm.specs.declared.fault.LinkFault.{LinkFault}
-use Rattle.sf_asm.specs.Entry.{IsSoundOutcome}
-use Rattle.sf_asm.specs.Functions.{Function, Object}
+use Rattle.frame_functions.specs.Entry.{IsSoundOutcome}
+use Rattle.frame_functions.specs.Functions.{Function}
+use Rattle.sf_asm.specs.Functions.{Object}
 use Rattle.sf_asm.specs.Inputs.{machines_of}
 use Rattle.sf_asm.proofs.Machines.{is_one}
 use Rattle.sf_plt.specs.Linking.{LinksPlts}

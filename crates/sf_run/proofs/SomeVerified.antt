@@ -13,8 +13,9 @@ use Rattle.sf_decode.specs.declared.fault.DecodeFault.{DecodeFault}
 use Rattle.sf_decode.specs.Decoding.{section_check, table_in}
 use Rattle.sf_decode.proofs.EntriesRead.{section_stands}
 use Rattle.sf_slim.proofs.Ranges.{IsGood, functions_good}
-use Rattle.sf_asm.specs.Functions.{Function, Object}
-use Rattle.sf_asm.specs.ContentAt.{said_in}
+use Rattle.frame_functions.specs.Functions.{Function}
+use Rattle.sf_asm.specs.Functions.{Object}
+use Rattle.frame_functions.specs.ContentAt.{said_in}
 use Rattle.sf_verify.specs.Agreement.{IsFitting}
 use Rattle.sf_verify.specs.SectionContent.{section_at}
 use Rattle.sf_verify.proofs.Fitting.{RowFits, dwarf_fits, function_fits, section_fits}

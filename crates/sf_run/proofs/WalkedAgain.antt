@@ -9,7 +9,7 @@ use Rattle.elf_read.specs.Header.{arch_of}
 use Rattle.core_notes.specs.declared.fault.CoreFault.{CoreFault}
 use Rattle.core_notes.specs.declared.fault.CoreFault.TheVariants as core_fault
 use Rattle.core_notes.specs.Checks.{core_check}
-use Rattle.sf_asm.specs.declared.entry.Entry.{Entry}
+use Rattle.frame_functions.specs.declared.entry.Entry.{Entry}
 use Rattle.sf_asm.specs.declared.fault.LinkFault.{LinkFault}
 use Rattle.sf_asm.specs.Functions.{Object}
 use Rattle.sf_merge.specs.Merging.{same_arch}

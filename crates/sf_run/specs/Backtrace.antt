@@ -9,7 +9,8 @@ use Rattle.core_notes.specs.declared.fault.CoreFault.{CoreFault}
 use Rattle.core_notes.specs.Checks.{core_check, file_threads}
 use Rattle.core_notes.specs.Memory.{file_regions}
 use Rattle.sf_asm.specs.Faithful.{dwarf_walk}
-use Rattle.sf_asm.specs.Functions.{Function, Object}
+use Rattle.frame_functions.specs.Functions.{Function}
+use Rattle.sf_asm.specs.Functions.{Object}
 use Rattle.sf_words.specs.Files.{FilesWords}
 use Rattle.sf_words.specs.Forms.{IsDepth}
 use Rattle.sf_words.specs.Items.{Input, Core}

@@ -1,7 +1,7 @@
 -- `link OUT@AT IN@BASE ..`: which words ask for it, its files, and what it comes to.
 use Rattle.std.specs.Prelude.{ℕ, List, [], codes, map, Some, None}
 use Rattle.sf_model.specs.declared.omission.Omitted.{Omitted}
-use Rattle.sf_asm.specs.Functions.{Function}
+use Rattle.frame_functions.specs.Functions.{Function}
 use Rattle.sf_text.specs.Report.{report_text}
 use Rattle.sf_words.specs.Files.{FilesWords}
 use Rattle.sf_words.specs.Forms.{NameInputs, SectionAndInputs}

@@ -4,7 +4,8 @@ use Rattle.sf_model.specs.declared.omission.Omitted.{Omitted}
 use Rattle.sf_model.specs.declared.omission.Span.{Span}
 use Rattle.sf_model.specs.Section.{AreBytes}
 use Rattle.sf_asm.specs.declared.fault.LinkFault.{LinkFault}
-use Rattle.sf_asm.specs.Functions.{Function, Object}
+use Rattle.frame_functions.specs.Functions.{Function}
+use Rattle.sf_asm.specs.Functions.{Object}
 use Rattle.sf_plt.specs.Answers.{IsPltLinked}
 use Rattle.sf_plt.specs.Linking.{LinksPlts}
 use Rattle.sf_text.specs.PltReport.{plt_report_text}

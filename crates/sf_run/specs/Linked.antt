@@ -3,12 +3,13 @@ use Rattle.std.specs.Prelude.{◌≡◌, ℕ, List, Option, None, Result, Ok, Er
 use Rattle.sf_model.specs.declared.machine.Arch.{Arch}
 use Rattle.sf_model.specs.declared.omission.Omitted.{Omitted}
 use Rattle.sf_model.specs.Section.{AreBytes}
-use Rattle.sf_asm.specs.declared.entry.Entry.{Entry}
+use Rattle.frame_functions.specs.declared.entry.Entry.{Entry}
 use Rattle.sf_asm.specs.declared.fault.GatherFault.TheVariants.{TooManyFunctions, TooManyRows}
 use Rattle.sf_asm.specs.declared.fault.LinkFault.{LinkFault}
 use Rattle.sf_asm.specs.declared.fault.LinkFault.TheVariants.{Gather}
 use Rattle.sf_asm.specs.Answers.{IsLinked}
-use Rattle.sf_asm.specs.Functions.{Function, Object}
+use Rattle.frame_functions.specs.Functions.{Function}
+use Rattle.sf_asm.specs.Functions.{Object}
 use Rattle.sf_asm.specs.Linking.{Links}
 use Rattle.sf_asm.specs.FaultShown.{shown_of_linking}
 use Rattle.sf_words.specs.declared.refusal.Limit.TheVariants.{Functions, Rows}

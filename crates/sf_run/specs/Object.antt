@@ -4,7 +4,8 @@ use Rattle.sf_base.specs.Word.{SpellsDecimal}
 use Rattle.sf_model.specs.declared.omission.Omitted.{Omitted}
 use Rattle.sf_gen.specs.Object.{object_bytes}
 use Rattle.sf_model.specs.declared.form.Form.TheVariants.{Elf}
-use Rattle.sf_asm.specs.Functions.{Function, Object}
+use Rattle.frame_functions.specs.Functions.{Function}
+use Rattle.sf_asm.specs.Functions.{Object}
 use Rattle.sf_text.specs.Summary.{summary_text}
 use Rattle.sf_words.specs.Files.{FilesWords}
 use Rattle.section_commands.specs.Coming.{Coming, Makes}

@@ -3,7 +3,7 @@
 ghost use Rattle.std.specs.Prelude.{◌≡◌, ℕ, All, List, [], ◌∷◌, Some, None, Result};
 ghost use Rattle.sf_model.specs.Section.{AreBytes};
 ghost use Rattle.sf_asm.specs.Accepted.{IsAccepted};
-ghost use Rattle.sf_asm.specs.declared.entry.Entry.{Entry};
+ghost use Rattle.frame_functions.specs.declared.entry.Entry.{Entry};
 ghost use Rattle.sf_asm.specs.declared.fault.LinkFault.{LinkFault};
 ghost use Rattle.sf_asm.specs.Functions.{Object};
 ghost use Rattle.sf_asm.specs.Linking.{Links};

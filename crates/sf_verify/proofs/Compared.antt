@@ -14,12 +14,12 @@ use Rattle.sf_model.specs.Function.{RowsRise}
 use Rattle.sf_model.specs.Lookup.{row_at}
 use Rattle.sf_verify.specs.declared.dwarf_cursor.DwarfCursor.{DwarfCursor}
 use Rattle.sf_verify.specs.declared.dwarf_cursor.ContentUntil.{ContentUntil}
-use Rattle.sf_asm.specs.declared.keyed_content.KeyedContent.{KeyedContent}
+use Rattle.frame_functions.specs.declared.keyed_content.KeyedContent.{KeyedContent}
 use Rattle.sf_verify.specs.declared.sweep.Difference.{Difference}
 use Rattle.sf_verify.specs.Agreement.{Agree, RecoverSameFrame, content_said, is_plain, is_plain_shape}
 use Rattle.sf_verify.specs.Asking.{IsKnownUpTo, IsReady, IsSame, Knows}
 use Rattle.sf_verify.specs.Comparing.{Compares, edge, edge_of, func_says}
-use Rattle.sf_asm.specs.ContentAt.{Answers, with_key}
+use Rattle.frame_functions.specs.ContentAt.{Answers, with_key}
 use Rattle.sf_verify.proofs.Holding.{plain_says}
 use Rattle.sf_verify.proofs.Rows.{no_row_at_all, no_row_before, row_at_place}
 

@@ -10,8 +10,8 @@ use Rattle.std.proofs.lemmas.List.Sorted.{length_permutation}
 use Rattle.sf_model.specs.declared.function.Func.{Func}
 use Rattle.sf_merge.specs.declared.located.Located.{Located}
 use Rattle.sf_merge.proofs.Permutations.{filter_permuted}
-use Rattle.sf_asm.specs.Functions.{Function}
-use Rattle.sf_asm.specs.Kept.{is_kept, kept_functions}
+use Rattle.frame_functions.specs.Functions.{Function}
+use Rattle.frame_functions.specs.Kept.{is_kept, kept_functions}
 use Rattle.sf_verify.specs.Agreement.{is_missing, is_plain, represents}
 use Rattle.sf_merge.specs.Located.{located_functions}
 use Rattle.sf_verify.specs.Counting.{StartBefore, StartsRise, represents_kept, is_absent}

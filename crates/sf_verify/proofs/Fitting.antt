@@ -16,10 +16,9 @@ use Rattle.sf_model.specs.Lookup.{begins_by, begins_last, contains, found_at, of
 use Rattle.cfa_machine.specs.FirstFault.{first_fault}
 use Rattle.sf_express.specs.Pieces.{content_in}
 use Rattle.sf_express.proofs.Writable.{ContentFits, content_of-fits}
-use Rattle.sf_asm.specs.Faithful.{holds_address}
-use Rattle.sf_asm.specs.Functions.{Function}
-use Rattle.sf_asm.specs.Kept.{says_of}
-use Rattle.sf_asm.specs.ContentAt.{dwarf_at, has_form, said_in, with_key}
+use Rattle.frame_functions.specs.Functions.{holds_address, Function}
+use Rattle.frame_functions.specs.Kept.{says_of}
+use Rattle.frame_functions.specs.ContentAt.{dwarf_at, has_form, said_in, with_key}
 use Rattle.sf_verify.specs.Agreement.{IsFitting}
 use Rattle.sf_verify.specs.SectionContent.{by_row, section_at, unless_in_blocks}
 use Rattle.sf_verify.proofs.Signs.{signs_fit}

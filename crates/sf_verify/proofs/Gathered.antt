@@ -22,12 +22,11 @@ use Rattle.sf_express.specs.Pieces.{content_in}
 use Rattle.sf_express.specs.Runs.{Saying, begins, expressed, function_of, omission_of, row_there, rows_among, rows_of}
 use Rattle.sf_express.proofs.Found.{SaysContent, content_said, row_said}
 use Rattle.sf_express.proofs.Runs.{takes}
-use Rattle.sf_asm.specs.Entry.{kept_of}
-use Rattle.sf_asm.specs.Faithful.{holds_address}
-use Rattle.sf_asm.specs.Functions.{Function}
-use Rattle.sf_asm.specs.Kept.{entry_of, facts_of, is_kept, omitted_functions, says_of}
-use Rattle.sf_asm.specs.Order.{are_apart}
-use Rattle.sf_asm.specs.Sources.{function_start}
+use Rattle.frame_functions.specs.Entry.{kept_of}
+use Rattle.frame_functions.specs.Functions.{holds_address, Function}
+use Rattle.frame_functions.specs.Kept.{entry_of, facts_of, is_kept, omitted_functions, says_of}
+use Rattle.frame_functions.specs.Order.{are_apart}
+use Rattle.frame_functions.specs.Sources.{function_start}
 use Rattle.sf_merge.proofs.Apart.{all_back}
 use Rattle.sf_model.proofs.Unions as unions
 use Rattle.sf_model.proofs.Unions.{Member, found, found_alone, in_filter, some_found}
@@ -36,7 +35,7 @@ use Rattle.sf_asm.proofs.Holding.{IsFine, fine, has_form_if, is_within, one_hold
 use Rattle.sf_asm.proofs.Members.{all_members, in_map, placed}
 use Rattle.sf_verify.specs.Asking.{AreHolders, IsRowed, RowsBegin, answers_of, by_holder}
 use Rattle.sf_verify.specs.Comparing.{func_says}
-use Rattle.sf_asm.specs.ContentAt.{Answers, dwarf_at, form_content, said_in, with_key}
+use Rattle.frame_functions.specs.ContentAt.{Answers, dwarf_at, form_content, said_in, with_key}
 use Rattle.sf_verify.proofs.Holding.{plain_says}
 
 -- ---- a kept function

@@ -17,9 +17,9 @@ use Rattle.sf_decode.specs.declared.iter.RowIter.{RowIter}
 use Rattle.sf_decode.specs.View.{head_of, rows_left}
 use Rattle.sf_express.specs.declared.pieces.Piece.{Piece}
 use Rattle.sf_express.specs.Pieces.{ArePieces, PiecesSay, said_by}
-use Rattle.sf_asm.specs.Functions.{Function}
+use Rattle.frame_functions.specs.Functions.{Function}
 use Rattle.sf_verify.specs.declared.dwarf_cursor.CurrentFunction.{CurrentFunction}
-use Rattle.sf_asm.specs.ContentAt.{AllFit, Answers, IfFits, form_content, said_in, with_key}
+use Rattle.frame_functions.specs.ContentAt.{AllFit, Answers, IfFits, form_content, said_in, with_key}
 use Rattle.sf_verify.specs.Asking.{AreHolders, IsHeld, IsKnownUpTo, IsRowed, KeptPassed, OmittedPassed}
 use Rattle.sf_verify.specs.Comparing.{func_read, func_says}
 use Rattle.sf_verify.specs.SectionContent.{by_row}

@@ -13,7 +13,7 @@ use Rattle.sf_model.specs.Lookup.{row_at}
 use Rattle.sf_lookup.proofs.Rows.{Rise, latest, latest_begun, latest_holds, latest_stops, rises, starts_from}
 use Rattle.sf_express.specs.declared.pieces.Piece.{Piece}
 use Rattle.sf_express.specs.Pieces.{ArePieces, PiecesBegin, PiecesRise, piece_of_row, said_by}
-use Rattle.sf_asm.specs.ContentAt.{AllFit, IfFits}
+use Rattle.frame_functions.specs.ContentAt.{AllFit, IfFits}
 use Rattle.sf_verify.specs.Asking.{RowsBegin}
 
 -- the row that begins last by an offset

@@ -14,14 +14,16 @@ use Rattle.sf_model.specs.Lookup.{contains, found_at, row_in_first}
 use Rattle.sf_model.specs.Table.{Table}
 use Rattle.sf_model.proofs.Unions.{within}
 use Rattle.sf_merge.proofs.SomeResult.{some_order}
-use Rattle.sf_asm.specs.declared.entry.Entry.{Entry}
+use Rattle.frame_functions.specs.declared.entry.Entry.{Entry}
 use Rattle.sf_asm.specs.declared.fault.GatherFault.{GatherFault}
-use Rattle.sf_asm.specs.declared.keyed_content.KeyedContent.{KeyedContent}
-use Rattle.sf_asm.specs.Functions.{Function, Object, functions_of, machine_of}
+use Rattle.frame_functions.specs.declared.keyed_content.KeyedContent.{KeyedContent}
+use Rattle.frame_functions.specs.Functions.{Function}
+use Rattle.sf_asm.specs.Functions.{Object, functions_of, machine_of}
 use Rattle.sf_asm.specs.Inputs.{all_functions}
-use Rattle.sf_asm.specs.Kept.{entry_of, kept_functions}
-use Rattle.sf_asm.specs.Linking.{Gathers, GathersFrom, functions_fault, start_of, unless_fault}
-use Rattle.sf_asm.specs.ContentAt.{Answers, dwarf_at}
+use Rattle.frame_functions.specs.Kept.{entry_of, kept_functions}
+use Rattle.frame_functions.specs.Order.{start_of}
+use Rattle.sf_asm.specs.Linking.{Gathers, GathersFrom, functions_fault, unless_fault}
+use Rattle.frame_functions.specs.ContentAt.{Answers, dwarf_at}
 use Rattle.sf_asm.proofs.Accepting.{gathered_can_be}
 use Rattle.sf_functions.proofs.ByStart.{by_key, in_order}
 use Rattle.sf_asm.proofs.Described.{describe, to_gathers}

@@ -12,12 +12,12 @@ use Rattle.sf_model.specs.declared.rows.Row.{Row}
 use Rattle.sf_model.specs.Lookup.{contains, found_at, offset_in_block, row_at, row_in_first}
 use Rattle.sf_model.proofs.Unions.{within}
 use Rattle.sf_merge.specs.declared.located.Located.{Located}
-use Rattle.sf_asm.specs.declared.keyed_content.KeyedContent.{KeyedContent}
+use Rattle.frame_functions.specs.declared.keyed_content.KeyedContent.{KeyedContent}
 use Rattle.sf_verify.specs.declared.sweep.Difference.{Difference}
 use Rattle.sf_verify.specs.Agreement.{Agree, DifferFirst, is_plain, is_plain_shape}
 use Rattle.sf_merge.specs.Located.{located_functions}
 use Rattle.sf_verify.specs.Comparing.{Compares, ComparesAll, DifferWithin, func_says}
-use Rattle.sf_asm.specs.ContentAt.{Answers}
+use Rattle.frame_functions.specs.ContentAt.{Answers}
 use Rattle.sf_verify.specs.SectionContent.{by_row, section_at}
 use Rattle.sf_verify.proofs.Compared.{compare_alike}
 

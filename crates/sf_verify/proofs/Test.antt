@@ -14,7 +14,7 @@ use Rattle.sf_express.specs.Expressed.{same_content}
 use Rattle.sf_express.proofs.Same.{content_same}
 use Rattle.sf_express.proofs.Changes.{content_itself}
 use Rattle.sf_verify.specs.Agreement.{IsFitting, RecoverSameFrame, agree, same_key}
-use Rattle.sf_asm.specs.declared.keyed_content.KeyedContent.{KeyedContent}
+use Rattle.frame_functions.specs.declared.keyed_content.KeyedContent.{KeyedContent}
 
 key_same : (j k : Key) → same_key j k ≡ true → j ≡ k
 key_same A A e = refl

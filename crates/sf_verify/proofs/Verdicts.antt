@@ -20,9 +20,10 @@ use Rattle.sf_merge.specs.Views.{IsViewOfSection}
 use Rattle.sf_asm.specs.declared.fault.GatherFault.{GatherFault}
 use Rattle.sf_asm.specs.declared.fault.GatherFault.TheVariants as gather
 use Rattle.sf_asm.specs.Answers.{IsFirstGathered}
-use Rattle.sf_asm.specs.Functions.{Function, Object, machine_of}
+use Rattle.frame_functions.specs.Functions.{Function}
+use Rattle.sf_asm.specs.Functions.{Object, machine_of}
 use Rattle.sf_asm.specs.Inputs.{HaveMachine}
-use Rattle.sf_asm.specs.Kept.{entry_of, is_kept}
+use Rattle.frame_functions.specs.Kept.{entry_of, is_kept}
 use Rattle.sf_asm.specs.Sources.{AreWithSources}
 use Rattle.sf_asm.proofs.Described.{described}
 use Rattle.sf_asm.proofs.Holding.{gathered_apart, kept_size}
@@ -34,7 +35,7 @@ use Rattle.sf_verify.specs.Asking.{AreHolders, answers_of}
 use Rattle.sf_verify.specs.Comparing.{AreComparable}
 use Rattle.sf_verify.specs.Concluding.{IsVerdictBy}
 use Rattle.sf_verify.specs.Counting.{KeptRise, StartsRise, represents_kept, is_absent}
-use Rattle.sf_asm.specs.ContentAt.{Answers, dwarf_at}
+use Rattle.frame_functions.specs.ContentAt.{Answers, dwarf_at}
 use Rattle.sf_verify.specs.SectionContent.{section_at}
 use Rattle.sf_verify.specs.Verifying.{IsFirstVerifyFault, Verifies, VerdictUnless, refused, section_fault, sized_in}
 use Rattle.sf_verify.proofs.Counted.{missing_are}

@@ -17,10 +17,10 @@ use Rattle.sf_model.specs.Content.{OffsetsInRange, content_fits}
 use Rattle.sf_model.specs.Memory.{Region}
 use Rattle.sf_model.specs.Recovery.{recovery}
 use Rattle.sf_express.specs.Expressed.{same_content}
-use Rattle.sf_asm.specs.Functions.{Function}
-use Rattle.sf_asm.specs.Kept.{kept_functions}
-use Rattle.sf_asm.specs.declared.keyed_content.KeyedContent.{KeyedContent}
-use Rattle.sf_asm.specs.ContentAt.{Answers, dwarf_at}
+use Rattle.frame_functions.specs.Functions.{Function}
+use Rattle.frame_functions.specs.Kept.{kept_functions}
+use Rattle.frame_functions.specs.declared.keyed_content.KeyedContent.{KeyedContent}
+use Rattle.frame_functions.specs.ContentAt.{Answers, dwarf_at}
 use Rattle.sf_verify.specs.SectionContent.{section_at}
 
 -- two contents with their keys recover the same caller's frame, for all registers and memory

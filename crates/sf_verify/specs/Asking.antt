@@ -12,11 +12,10 @@ use Rattle.sf_model.specs.Function.{RowsRise}
 use Rattle.sf_model.specs.Lookup.{contains}
 use Rattle.sf_write.specs.Stored.{stored_in}
 use Rattle.sf_express.specs.Pieces.{ArePieces, said_by}
-use Rattle.sf_asm.specs.Faithful.{holds_address}
-use Rattle.sf_asm.specs.Functions.{Function}
-use Rattle.sf_asm.specs.declared.entries.InputFunctions.{InputFunctions}
-use Rattle.sf_asm.specs.declared.keyed_content.KeyedContent.{KeyedContent}
-use Rattle.sf_asm.specs.ContentAt.{AllFit, Answers, said_in, with_key}
+use Rattle.frame_functions.specs.Functions.{holds_address, Function}
+use Rattle.frame_functions.specs.declared.entries.InputFunctions.{InputFunctions}
+use Rattle.frame_functions.specs.declared.keyed_content.KeyedContent.{KeyedContent}
+use Rattle.frame_functions.specs.ContentAt.{AllFit, Answers, said_in, with_key}
 use Rattle.sf_verify.specs.declared.dwarf_cursor.DwarfCursor.{DwarfCursor}
 use Rattle.sf_verify.specs.declared.dwarf_cursor.CurrentFunction.{CurrentFunction}
 use Rattle.sf_verify.specs.declared.dwarf_cursor.ContentUntil.{ContentUntil}

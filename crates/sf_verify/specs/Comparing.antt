@@ -14,7 +14,7 @@ use Rattle.sf_decode.specs.View.{rows_left}
 use Rattle.sf_merge.specs.declared.located.Located.{Located}
 use Rattle.sf_verify.specs.declared.sweep.Difference.{Difference}
 use Rattle.sf_verify.specs.Agreement.{Agree, DifferFirst, content_said}
-use Rattle.sf_asm.specs.ContentAt.{Answers}
+use Rattle.frame_functions.specs.ContentAt.{Answers}
 use Rattle.sf_verify.specs.SectionContent.{by_row}
 
 -- the least address from one on and below an end at which section and call frame information differ, and their contents there

@@ -6,7 +6,7 @@ use Rattle.sf_model.specs.declared.verdict.Verdict.{Verdict}
 use Rattle.sf_model.specs.declared.verdict.Verdict.TheVariants.{Agrees, Differs}
 use Rattle.sf_verify.specs.Agreement.{Agree, DifferFirst, is_plain}
 use Rattle.sf_verify.specs.Counting.{is_absent}
-use Rattle.sf_asm.specs.ContentAt.{Answers}
+use Rattle.frame_functions.specs.ContentAt.{Answers}
 use Rattle.sf_verify.specs.SectionContent.{section_at}
 
 -- the section agrees with these contents at every address, and these are the numbers of its plain functions, of the kept functions

@@ -5,7 +5,8 @@ use Rattle.sf_model.specs.FaultShown.{FaultShown}
 use Rattle.sf_decode.specs.declared.fault.DecodeFault.TheVariants as decode
 use Rattle.sf_decode.specs.Fault.{number_and_place}
 use Rattle.sf_asm.specs.Fault.{is_gather_refusal, is_wrapped_answered}
-use Rattle.sf_asm.specs.FaultShown.{shown_of_gathering, not_shown}
+use Rattle.frame_functions.specs.FaultShown.{not_shown}
+use Rattle.sf_asm.specs.FaultShown.{shown_of_gathering}
 use Rattle.sf_verify.specs.declared.fault.VerifyFault.{VerifyFault}
 use Rattle.sf_verify.specs.declared.fault.VerifyFault.TheVariants.{Gather, Overlap, NoMemory}
 

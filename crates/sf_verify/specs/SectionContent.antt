@@ -6,8 +6,8 @@ use Rattle.sf_model.specs.declared.function.Func.{Func}
 use Rattle.sf_model.specs.declared.function.Shape.{Shape}
 use Rattle.sf_model.specs.declared.function.Shape.TheVariants.{Plain, Repeat}
 use Rattle.sf_model.specs.Lookup.{FoundRow, found_at}
-use Rattle.sf_asm.specs.declared.keyed_content.KeyedContent.{KeyedContent}
-use Rattle.sf_asm.specs.ContentAt.{Answers, with_key}
+use Rattle.frame_functions.specs.declared.keyed_content.KeyedContent.{KeyedContent}
+use Rattle.frame_functions.specs.ContentAt.{Answers, with_key}
 
 -- the content of a plain function; functions of repeated blocks are not compared
 abbrev pub unless_in_blocks : Shape → KeyedContent → Option KeyedContent

@@ -6,7 +6,7 @@ ghost use Rattle.sf_model.specs.Content.{OffsetsInRange, PointerInRange, ReturnI
 ghost use Rattle.sf_verify.specs.Agreement as spec;
 ghost use Rattle.sf_verify.specs.Agreement.{RecoverSameFrame};
 
-use sf_asm::KeyedContent;
+use frame_functions::KeyedContent;
 use sf_express::is_same;
 use sf_model::{Arch, Content, Key, Ra};
 

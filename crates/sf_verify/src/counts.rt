@@ -1,6 +1,6 @@
 //! The number of functions that are compared, and of those that a section lacks.
 
-ghost use Rattle.std.specs.Prelude.{◌≡◌, ◌≤◌, ◌<◌, ◌^◌, ◌&&◌, ◌==◌, ℕ, IsTrue, get_or, length, map, false};
+ghost use Rattle.std.specs.Prelude.{◌≡◌, ◌≤◌, ◌<◌, ◌^◌, ◌&&◌, ◌==◌, IsTrue, get_or, length};
 ghost use Rattle.std.specs.List.{filter};
 ghost use Rattle.sf_model.specs.declared.function.Func.{Func as func};
 ghost use Rattle.sf_decode.specs.View.{head_of, table_of};

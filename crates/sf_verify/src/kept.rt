@@ -6,7 +6,7 @@ ghost use Rattle.sf_decode.specs.View.{head_of, rows_left};
 ghost use Rattle.sf_write.specs.Stored.{IsStored};
 ghost use Rattle.sf_verify.specs.Asking.{kept_in};
 
-use sf_asm::InputFunctions;
+use frame_functions::InputFunctions;
 use sf_decode::RowIter;
 use sf_model::FuncHead;
 use sf_write::StoredList;

@@ -7,7 +7,7 @@ ghost use Rattle.sf_asm.specs.Functions.{Object};
 ghost use Rattle.sf_verify.specs.declared.fault.VerifyFault.{VerifyFault as verify_fault};
 ghost use Rattle.sf_verify.specs.Verifying.{Verifies};
 ghost use Rattle.sf_model.specs.declared.machine.Arch.{Arch as arch};
-ghost use Rattle.sf_asm.specs.declared.keyed_content.KeyedContent.{KeyedContent as said};
+ghost use Rattle.frame_functions.specs.declared.keyed_content.KeyedContent.{KeyedContent as said};
 ghost use Rattle.sf_verify.specs.Agreement.{IsFitting, RecoverSameFrame, agree};
 
 /// Contents recover alike exactly if they are equal, and also their keys are equal if they are signed.

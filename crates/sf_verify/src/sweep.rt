@@ -10,7 +10,7 @@ ghost use Rattle.sf_verify.specs.SectionContent.{section_at};
 
 use crate::agreement::recover_alike;
 use crate::dwarf_cursor::DwarfCursor;
-use sf_asm::KeyedContent;
+use frame_functions::KeyedContent;
 use sf_base::NoMemory;
 use sf_decode::RowIter;
 use sf_merge::SectionFunctions;

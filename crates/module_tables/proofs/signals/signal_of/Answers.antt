@@ -1,5 +1,5 @@
 use Rattle.std.proofs.Common.{◌≡◌, None, Some, ap}
-use Rattle.sf_asm.specs.Sources.{source_function}
+use Rattle.frame_functions.specs.Sources.{source_function}
 use Rattle.signal_frames.specs.declared.frame.SignalFrame.{SignalFrame}
 use Rattle.module_tables.specs.Signals.{signal_span}
 use Rattle.module_tables.proofs.signals.signal_of.Goals as goal

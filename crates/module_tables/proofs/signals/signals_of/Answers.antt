@@ -1,6 +1,6 @@
 use Rattle.std.proofs.Common.{◌<◌, ◌+◌, List, length, take, ap, subst, sym, arith}
-use Rattle.sf_asm.specs.Functions.{Function}
-use Rattle.sf_asm.specs.Sources.{source_function}
+use Rattle.frame_functions.specs.Functions.{Function}
+use Rattle.frame_functions.specs.Sources.{source_function}
 use Rattle.sf_lookup.specs.declared.span.Span.{Span}
 use Rattle.signal_frames.specs.declared.frame.SignalFrame.{SignalFrame}
 use Rattle.module_tables.specs.Signals.{AreSignals}

@@ -1,5 +1,6 @@
 use Rattle.std.proofs.Common.{List, subst}
-use Rattle.sf_asm.specs.Functions.{Function, bytes_of, form_of}
+use Rattle.frame_functions.specs.Functions.{Function}
+use Rattle.sf_asm.specs.Functions.{bytes_of, form_of}
 use Rattle.module_tables.specs.Signals.{AreSignals}
 use Rattle.module_tables.proofs.Formed.{table_of}
 use Rattle.module_tables.proofs.table.module_table.Goals as goal

@@ -2,7 +2,7 @@ use Rattle.std.proofs.Common.{◌≡◌, map, sym, ap, ◌∙◌}
 use Rattle.elf_place.specs.Views as view
 use Rattle.elf_read.specs.Input.{file}
 use Rattle.sf_model.specs.declared.machine.Arch.{Arch}
-use Rattle.sf_asm.specs.Functions.{sections_functions}
+use Rattle.frame_functions.specs.Functions.{sections_functions}
 use Rattle.sf_asm.specs.Sections.{placed_section}
 use Rattle.sf_asm.proofs.Files.{file_functions, file_is}
 use Rattle.sf_asm.proofs.elf.read_checked.Goals as goal

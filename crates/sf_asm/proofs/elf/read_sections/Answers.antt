@@ -2,10 +2,10 @@ use Rattle.std.proofs.Common.{◌≡◌, ◌+◌, ◌-◌, ◌%◌, ◌^◌, ℕ
 use Rattle.elf_place.specs.Views.{Placing, placing, shift_in}
 use Rattle.elf_read.specs.Sections.{section_bytes}
 use Rattle.elf_reloc.specs.Reading.{placed_address}
-use Rattle.sf_asm.specs.declared.call_frame_section.CallFrameSection.{CallFrameSection}
+use Rattle.frame_functions.specs.declared.call_frame_section.CallFrameSection.{CallFrameSection}
 use Rattle.sf_asm.specs.Sections.{placed_section}
-use Rattle.sf_asm.specs.Views.{relocations_by, seen_section}
-use Rattle.sf_asm.proofs.ReadFunctions.{section_more}
+use Rattle.frame_functions.specs.Views.{relocations_by, seen_section}
+use Rattle.frame_functions.proofs.FunctionsOfSection.{section_more}
 use Rattle.sf_asm.proofs.elf.read_sections.Goals as goal
 
 -- a section of a placed file, as it is read

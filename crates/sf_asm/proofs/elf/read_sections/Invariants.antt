@@ -1,9 +1,9 @@
 use Rattle.std.proofs.Common.{drop, map}
 use Rattle.elf_place.specs.Views.{placing, shift_in}
-use Rattle.sf_asm.specs.Functions.{sections_functions}
-use Rattle.sf_asm.specs.ReadSoFar.{AreSound}
+use Rattle.frame_functions.specs.Functions.{sections_functions}
+use Rattle.frame_functions.specs.ReadSoFar.{AreSound}
 use Rattle.sf_asm.specs.Sections.{placed_section}
-use Rattle.sf_asm.proofs.ReadSoFar.{GoesOn}
+use Rattle.frame_functions.proofs.ReadSoFar.{GoesOn}
 use Rattle.sf_asm.proofs.elf.read_sections.Given as goal
 
 abbrev pub invariant-loop-number : goal.invariant-loop-number

@@ -1,11 +1,11 @@
 use Rattle.std.proofs.Common.{◌≡◌, ◌<◌, ◌≤◌, ◌+◌, ◌∷◌, ℕ, List, drop, get_or, length, ap, sym, ◌∙◌, arith}
 use Rattle.std.proofs.lemmas.List.{drop_all, drop_more}
 use Rattle.sf_model.specs.declared.omission.Span.{Span}
-use Rattle.sf_asm.specs.declared.entry.Entry.{Entry}
-use Rattle.sf_asm.specs.Entry.{spans_of}
+use Rattle.frame_functions.specs.declared.entry.Entry.{Entry}
+use Rattle.frame_functions.specs.Entry.{spans_of}
 use Rattle.sf_asm.specs.Functions.{unless}
 use Rattle.sf_asm.specs.Linking.{overlap_left}
-use Rattle.sf_asm.proofs.Heads.{no_entry}
+use Rattle.frame_functions.proofs.Heads.{no_entry}
 use Rattle.sf_asm.proofs.gathering.check_overlaps.Goals as goal
 
 -- one span after another

@@ -1,8 +1,8 @@
 use Rattle.std.proofs.Common.{List, Ok, map, ap, subst, sym, ◌∙◌, refl}
 use Rattle.std.proofs.lemmas.Result.{err_from_is_err_and}
 use Rattle.sf_model.specs.Function.{AreWritable}
-use Rattle.sf_asm.specs.declared.entry.Entry.{Entry}
-use Rattle.sf_asm.specs.Entry.{kept_of, omitted_of}
+use Rattle.frame_functions.specs.declared.entry.Entry.{Entry}
+use Rattle.frame_functions.specs.Entry.{kept_of, omitted_of}
 use Rattle.sf_asm.specs.Functions.{object_of}
 use Rattle.sf_asm.specs.Inputs.{first_item}
 use Rattle.sf_asm.specs.Linking.{Gathers}
@@ -10,7 +10,7 @@ use Rattle.sf_asm.proofs.ByStart.{are_by_start, ordered_are, sorted_functions, s
 use Rattle.sf_asm.proofs.Described.{describe}
 use Rattle.sf_asm.proofs.GatheredInputs.{are_read}
 use Rattle.sf_asm.proofs.Kept.{kept_of_checked}
-use Rattle.sf_asm.proofs.Lending.{are_lent}
+use Rattle.frame_functions.proofs.Lending.{are_lent}
 use Rattle.sf_asm.proofs.NeverMemory.{first_is_answered}
 use Rattle.sf_asm.proofs.gathering.gather_with_sources.Goals as goal
 

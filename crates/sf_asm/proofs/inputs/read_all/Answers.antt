@@ -2,10 +2,10 @@ use Rattle.std.proofs.Common.{◌≡◌, ◌∙◌, ℕ, All, List, ◌++◌, �
 use Rattle.std.proofs.lemmas.Result.{err_from_is_err_and}
 use Rattle.sf_model.specs.declared.machine.Arch.{Arch}
 use Rattle.sf_asm.specs.Functions.{functions_of, machine_of, object_of}
-use Rattle.sf_asm.specs.ReadSoFar.{AreSound}
+use Rattle.frame_functions.specs.ReadSoFar.{AreSound}
 use Rattle.sf_asm.proofs.Machines.{earlier_have, last_has}
 use Rattle.sf_asm.proofs.ReadInputs.{AreReadUpTo, ends_at, goes_on_at, machines_more, starts, stops_at}
-use Rattle.sf_asm.proofs.ReadSoFar.{none_sound}
+use Rattle.frame_functions.proofs.ReadSoFar.{none_sound}
 use Rattle.sf_asm.proofs.inputs.read_all.Goals as goal
 
 pub returns-in_err-arch-clause-fault : goal.returns-in_err-arch-clause-fault

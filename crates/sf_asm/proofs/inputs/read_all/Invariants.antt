@@ -1,7 +1,7 @@
 use Rattle.std.proofs.Common.{◌≡◌, ◌+◌, All, drop, take, map}
 use Rattle.sf_model.specs.declared.machine.Arch.{Arch}
 use Rattle.sf_asm.specs.Functions.{functions_of, machine_of, object_of}
-use Rattle.sf_asm.specs.ReadSoFar.{AreSound}
+use Rattle.frame_functions.specs.ReadSoFar.{AreSound}
 use Rattle.sf_asm.proofs.ReadInputs.{AreReadUpTo}
 use Rattle.sf_asm.proofs.inputs.read_all.Given as goal
 

@@ -1,7 +1,7 @@
 use Rattle.std.proofs.Common.{ℕ, ◌∙◌, arith, length, map, ap, sym}
 use Rattle.std.proofs.lemmas.Result.{err_from_is_err_and}
 use Rattle.std.proofs.lemmas.List.{length-map}
-use Rattle.sf_asm.specs.Entry.{kept_by_item}
+use Rattle.frame_functions.specs.Entry.{kept_by_item}
 use Rattle.sf_asm.specs.Functions.{object_of}
 use Rattle.sf_asm.specs.Inputs.{first_item}
 use Rattle.sf_asm.proofs.GatheredInputs.{gathered_within}

@@ -1,7 +1,7 @@
 use Rattle.std.proofs.Common.{◌≡◌, ℕ, List, map, ap, subst, sym, ◌∙◌}
 use Rattle.sf_express.specs.declared.pieces.Piece.{Piece}
 use Rattle.sf_express.specs.Pieces.{AreSaidBy, piece_of_row}
-use Rattle.sf_asm.specs.ContentAt.{form_content}
+use Rattle.frame_functions.specs.ContentAt.{form_content}
 use Rattle.sf_asm.proofs.list_forms.kept_row.Goals as goal
 
 pub returns : goal.returns

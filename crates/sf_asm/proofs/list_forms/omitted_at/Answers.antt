@@ -1,7 +1,6 @@
 use Rattle.std.proofs.Common.{◌≡◌, ◌<◌, ap, get_or, length, refl, sym, ◌∙◌, arith}
-use Rattle.sf_asm.specs.Faithful.{holds_address}
-use Rattle.sf_asm.specs.Functions.{Function}
-use Rattle.sf_asm.specs.Sources.{source_function}
+use Rattle.frame_functions.specs.Functions.{holds_address, Function}
+use Rattle.frame_functions.specs.Sources.{source_function}
 use Rattle.sf_asm.proofs.RowAt.{found_here, found_later, has_it, some_of}
 use Rattle.sf_asm.proofs.list_forms.omitted_at.Goals as goal
 

@@ -1,6 +1,6 @@
 use Rattle.std.proofs.Common.{◌≡◌, drop}
 use Rattle.std.specs.List.{find}
-use Rattle.sf_asm.specs.Faithful.{holds_address}
+use Rattle.frame_functions.specs.Functions.{holds_address}
 use Rattle.sf_asm.proofs.list_forms.omitted_at.Given as goal
 
 -- what is found among all is found among those that are left

@@ -1,8 +1,8 @@
 use Rattle.std.proofs.Common.{List, refl, subst, sym}
 use Rattle.sf_express.specs.declared.pieces.Piece.{Piece}
 use Rattle.sf_express.specs.Pieces.{AreSaidBy}
-use Rattle.sf_asm.specs.ContentAt.{form_content}
-use Rattle.sf_asm.specs.Sources.{source_function}
+use Rattle.frame_functions.specs.ContentAt.{form_content}
+use Rattle.frame_functions.specs.Sources.{source_function}
 use Rattle.sf_asm.proofs.list_forms.omitted_row.Goals as goal
 
 pub returns : goal.returns

@@ -1,9 +1,10 @@
 use Rattle.std.proofs.Common.{map, refl}
 use Rattle.sf_model.specs.Lookup.{contains}
-use Rattle.sf_asm.specs.Faithful.{holds_address}
+use Rattle.frame_functions.specs.Functions.{holds_address}
 use Rattle.sf_asm.specs.Functions.{object_of}
-use Rattle.sf_asm.specs.Sources.{source_function}
-use Rattle.sf_asm.proofs.RowAt.{found_in, if_ok, kept_askable, no_row, none_in, omitted_within, row_of_kept, row_of_omitted, with_kept}
+use Rattle.frame_functions.specs.Sources.{source_function}
+use Rattle.frame_functions.proofs.Lending.{if_ok}
+use Rattle.sf_asm.proofs.RowAt.{found_in, kept_askable, no_row, none_in, omitted_within, row_of_kept, row_of_omitted, with_kept}
 use Rattle.sf_asm.proofs.list_forms.row_at.Goals as goal
 
 pub kept_row-requires-clause-from : goal.kept_row-requires-clause-from

@@ -1,13 +1,13 @@
 use Rattle.std.proofs.Common.{◌++◌, ◌∷◌, ◌+◌, ◌-◌, ◌<◌, ◌≤◌, ◌≡◌, [], ℕ, List, Vec, Global, Ok, Err, arith, length, take, ap, refl, subst, sym, ◌∙◌}
 use Rattle.std.proofs.lemmas.List.{length-set, take_all}
-use Rattle.sf_asm.specs.declared.entry.Entry.{Entry}
-use Rattle.sf_asm.specs.declared.entry.Expressed.TheVariants.{Kept, LeftOut}
+use Rattle.frame_functions.specs.declared.entry.Entry.{Entry}
+use Rattle.frame_functions.specs.declared.entry.Expressed.TheVariants.{Kept, LeftOut}
 use Rattle.sf_asm.specs.declared.list_forms.Gathered.{Gathered}
 use Rattle.sf_model.specs.declared.function.Func.{Func}
 use Rattle.sf_model.specs.declared.omission.Omitted.{Omitted}
 use Rattle.sf_model.specs.declared.omission.Span.{Span}
-use Rattle.sf_asm.specs.Entry.{kept_by_item, kept_of, of_item, omitted_of, spans_of}
-use Rattle.sf_asm.specs.Kept.{outcome_by}
+use Rattle.frame_functions.specs.Entry.{kept_by_item, kept_of, of_item, omitted_of, spans_of}
+use Rattle.frame_functions.specs.Kept.{outcome_by}
 use Rattle.sf_asm.proofs.HandedOut.{AreSortedOut, all_handed_out, one_kept, one_left, one_more, span_within}
 use Rattle.sf_asm.proofs.Kept.{omitted_of-kept, omitted_of-left, spans_of-push}
 use Rattle.sf_asm.proofs.list_forms.sort_out.Goals as goal

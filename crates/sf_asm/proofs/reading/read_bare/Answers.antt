@@ -1,5 +1,5 @@
-use Rattle.sf_asm.specs.Functions.{bare_section}
-use Rattle.sf_asm.proofs.ReadFunctions.{alone}
+use Rattle.frame_functions.specs.CallFrames.{bare_section}
+use Rattle.frame_functions.proofs.FunctionsOfSection.{alone}
 use Rattle.sf_asm.proofs.reading.read_bare.Goals as goal
 
 pub returns-clause-exact : goal.returns-clause-exact

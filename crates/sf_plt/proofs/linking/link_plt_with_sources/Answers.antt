@@ -7,9 +7,10 @@ use Rattle.sf_model.specs.Table.{row_count}
 use Rattle.sf_write.specs.Stored.{IsStored, stored_in}
 use Rattle.sf_write.proofs.StoredEntries.{counts, few_rows}
 use Rattle.sf_write.specs.Reach.{first_out_of_reach}
-use Rattle.sf_asm.specs.Entry.{omitted_of}
-use Rattle.sf_asm.specs.Functions.{Function, object_of}
-use Rattle.sf_asm.specs.Kept.{entry_of}
+use Rattle.frame_functions.specs.Entry.{omitted_of}
+use Rattle.frame_functions.specs.Functions.{Function}
+use Rattle.sf_asm.specs.Functions.{object_of}
+use Rattle.frame_functions.specs.Kept.{entry_of}
 use Rattle.sf_asm.proofs.FaithfulSections.{reach_refused}
 use Rattle.sf_asm.specs.declared.gathering.WithSources.{WithSources}
 use Rattle.sf_plt.specs.Answers.{IsFirstPltLinked, others_in, plt_span}

@@ -3,10 +3,10 @@ use Rattle.std.specs.List.{filter, flat_map}
 use Rattle.sf_model.specs.declared.function.Func.{Func}
 use Rattle.sf_model.specs.Function.{IsWritable}
 use Rattle.sf_write.specs.Stored.{IsStored, stored_in}
-use Rattle.sf_asm.specs.Entry.{omitted_of}
-use Rattle.sf_asm.specs.Functions.{Function}
-use Rattle.sf_asm.specs.Kept.{entry_of}
-use Rattle.sf_asm.specs.Sources.{source_function}
+use Rattle.frame_functions.specs.Entry.{omitted_of}
+use Rattle.frame_functions.specs.Functions.{Function}
+use Rattle.frame_functions.specs.Kept.{entry_of}
+use Rattle.frame_functions.specs.Sources.{source_function}
 use Rattle.sf_plt.specs.declared.sorting.Sorted.{Sorted}
 use Rattle.sf_plt.specs.Answers.{others_in, plt_span}
 use Rattle.sf_plt.specs.Plt.{is_plt}

@@ -2,8 +2,8 @@ use Rattle.std.proofs.Common.{◌≡◌, ◌++◌, All, map, take}
 use Rattle.std.specs.List.{filter, flat_map}
 use Rattle.sf_model.specs.Function.{IsWritable}
 use Rattle.sf_write.specs.Stored.{IsStored, stored_in}
-use Rattle.sf_asm.specs.Entry.{omitted_of}
-use Rattle.sf_asm.specs.Kept.{entry_of}
+use Rattle.frame_functions.specs.Entry.{omitted_of}
+use Rattle.frame_functions.specs.Kept.{entry_of}
 use Rattle.sf_plt.specs.Answers.{others_in, plt_span}
 use Rattle.sf_plt.specs.Plt.{is_plt}
 use Rattle.sf_plt.specs.Written.{plt_pair}

@@ -1,5 +1,5 @@
 use Rattle.std.proofs.Common.{ap, sym, ◌∙◌}
-use Rattle.sf_asm.specs.Sources.{source_function}
+use Rattle.frame_functions.specs.Sources.{source_function}
 use Rattle.sf_plt.specs.Plt.{counts_from_stack}
 use Rattle.sf_plt.proofs.Initial.{from_frame, from_stack, is_table, no_form, no_stack, no_text, taken}
 use Rattle.sf_plt.proofs.table.table_content.Goals as goal

@@ -7,7 +7,7 @@ use Rattle.sf_verify.specs.Agreement.{is_plain, is_plain_shape}
 use Rattle.sf_verify.specs.Asking.{IsReady, says}
 use Rattle.sf_merge.specs.Located.{located_functions}
 use Rattle.sf_verify.specs.Comparing.{Compares, IsComparable, func_read, func_says}
-use Rattle.sf_asm.specs.ContentAt.{Answers}
+use Rattle.frame_functions.specs.ContentAt.{Answers}
 use Rattle.sf_verify.specs.SectionContent.{section_at}
 use Rattle.sf_verify.proofs.Compared.{later, no_difference, same_again}
 use Rattle.sf_verify.proofs.Rowwise.{func_is, some_function}

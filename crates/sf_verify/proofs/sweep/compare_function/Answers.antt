@@ -1,6 +1,6 @@
 use Rattle.std.proofs.Common.{◌+◌, refl, subst, sym, arith}
 use Rattle.sf_model.specs.declared.machine.Arch.{Arch}
-use Rattle.sf_asm.specs.ContentAt.{Answers}
+use Rattle.frame_functions.specs.ContentAt.{Answers}
 use Rattle.sf_verify.specs.Agreement.{Agree}
 use Rattle.sf_verify.specs.Comparing.{Compares, IsComparable, func_read, func_says}
 use Rattle.sf_verify.proofs.Compared.{agree_self, later}

@@ -4,7 +4,7 @@ use Rattle.sf_model.specs.declared.machine.Arch.{Arch}
 use Rattle.sf_model.specs.declared.rows.Row.{Row}
 use Rattle.sf_model.specs.Content.{content_fits}
 use Rattle.sf_decode.specs.View.{rows_left}
-use Rattle.sf_asm.specs.ContentAt.{with_key}
+use Rattle.frame_functions.specs.ContentAt.{with_key}
 use Rattle.sf_verify.specs.declared.sweep.Difference.{Difference}
 use Rattle.sf_verify.specs.Asking.{says}
 use Rattle.sf_verify.specs.Comparing.{Compares, edge_of, func_read, func_says}

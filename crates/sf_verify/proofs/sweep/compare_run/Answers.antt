@@ -1,6 +1,6 @@
 use Rattle.std.proofs.Common.{◌≡◌, ◌+◌, None, refl, arith, ap, sym, subst, ◌∙◌}
 use Rattle.sf_verify.specs.Asking.{IsKnownUpTo, Knows, says}
-use Rattle.sf_asm.specs.ContentAt.{Answers}
+use Rattle.frame_functions.specs.ContentAt.{Answers}
 use Rattle.sf_verify.proofs.Compared.{alike_on, known_some, later, nothing_there, other_there, same_again}
 use Rattle.sf_verify.proofs.sweep.compare_run.Goals as goal
 

@@ -8,7 +8,7 @@ use Rattle.sf_verify.specs.Asking.{answers_of, kept_in, says}
 use Rattle.sf_verify.specs.Counting.{is_absent}
 use Rattle.sf_merge.specs.Located.{located_functions}
 use Rattle.sf_verify.specs.Comparing.{ComparesAll}
-use Rattle.sf_asm.specs.ContentAt.{Answers}
+use Rattle.frame_functions.specs.ContentAt.{Answers}
 use Rattle.sf_verify.specs.SectionContent.{section_at}
 use Rattle.sf_verify.proofs.Counted.{at_most, rest_are}
 use Rattle.sf_verify.proofs.verifying.verdict_on.Goals as goal

@@ -1,8 +1,8 @@
 use Rattle.std.proofs.Common.{All, List, ◌++◌, ◌∷◌, [], ap, subst, sym, ◌∙◌}
 use Rattle.sf_model.specs.declared.function.Func.{Func}
 use Rattle.sf_model.specs.Function.{IsWritable}
-use Rattle.sf_asm.specs.Kept.{facts_of}
-use Rattle.sf_asm.specs.Sources.{source_function}
+use Rattle.frame_functions.specs.Kept.{facts_of}
+use Rattle.frame_functions.specs.Sources.{source_function}
 use Rattle.sf_plt.proofs.Form.{plt_form, size_small}
 use Rattle.sf_plt.proofs.Writable.{first_on, later_on, pair_writable}
 use Rattle.sf_plt.proofs.sorting.Sorted.add_table.Goals as goal

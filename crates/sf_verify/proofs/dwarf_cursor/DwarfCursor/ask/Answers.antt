@@ -1,7 +1,7 @@
 use Rattle.std.proofs.Common.{subst}
 use Rattle.sf_model.specs.declared.machine.Arch.{Arch}
 use Rattle.sf_verify.specs.Asking.{Knows, says}
-use Rattle.sf_asm.specs.ContentAt.{Answers}
+use Rattle.frame_functions.specs.ContentAt.{Answers}
 use Rattle.sf_verify.proofs.dwarf_cursor.DwarfCursor.ask.Goals as goal
 
 pub returns-clause-known : goal.returns-clause-known

@@ -1,5 +1,5 @@
 use Rattle.std.proofs.Common.{arith, refl}
-use Rattle.sf_asm.specs.Sources.{source_function}
+use Rattle.frame_functions.specs.Sources.{source_function}
 use Rattle.sf_verify.specs.Asking.{says}
 use Rattle.sf_verify.proofs.Holding.{lent_has, omitted_held}
 use Rattle.sf_verify.proofs.dwarf_cursor.DwarfCursor.find_omitted.Goals as goal

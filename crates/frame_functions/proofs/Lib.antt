@@ -1,0 +1,11 @@
+pub mod Heads
+pub mod KeptRows
+pub mod FunctionsOfSection
+pub mod ReadSoFar
+pub mod Limits
+pub mod Relocating
+pub mod Patching
+pub mod MadeRows
+pub mod Lending
+pub mod CommonParts
+pub mod SaidPieces

@@ -1,0 +1,17 @@
+pub mod Entry
+pub mod Heads
+pub mod Order
+pub mod Fault
+pub mod FaultShown
+pub mod Relocated
+pub mod CallFrames
+pub mod Functions
+pub mod Kept
+pub mod InitialRows
+pub mod Sources
+pub mod Numbers
+pub mod Lent
+pub mod ReadSoFar
+pub mod Answers
+pub mod Views
+pub mod ContentAt

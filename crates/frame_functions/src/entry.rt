@@ -1,0 +1,80 @@
+//! A function that was read, kept or omitted.
+
+use sf_model::{Omission, Omitted, Origin, Span};
+use sf_write::{PackedFunction, StoredFunction};
+
+/// What became of a function.
+#[derive(Drop)]
+pub enum Expressed {
+    /// SFrame can express it.
+    Kept(PackedFunction),
+    /// SFrame can't express it.
+    LeftOut(Omission),
+}
+
+/// A function with its addresses and origin, and what became of it.
+#[derive(Drop)]
+pub struct Entry {
+    pub span: Span,
+    pub outcome: Expressed,
+}
+
+impl Entry {
+    ghost use Rattle.std.specs.Prelude.{◌≡◌};
+    ghost use Rattle.frame_functions.specs.Order.{entry_rows};
+
+    /// Counts its rows. An omitted function has none.
+    #[inline(always)]
+    pub fn row_count(&self) -> usize
+        ensures { result ≡ entry_rows self.now }
+    {
+        match &self.outcome {
+            Expressed::Kept(function) => function.head().rows as usize,
+            Expressed::LeftOut(_) => 0,
+        }
+    }
+}
+
+/// A function that was read, whose rows are kept in the list of all.
+#[derive(Clone, Copy)]
+pub enum Head {
+    /// SFrame can express it. It came from this record.
+    Kept(StoredFunction, Origin),
+    /// SFrame can't express it.
+    LeftOut(Omitted),
+}
+
+impl Head {
+    ghost use Rattle.std.specs.Prelude.{◌≡◌};
+    ghost use Rattle.frame_functions.specs.Heads.{head_span};
+
+    /// Returns its first address.
+    #[inline(always)]
+    pub fn start(&self) -> u64
+        ensures { result ≡ (head_span self.now).start }
+    {
+        match self {
+            Head::Kept(function, _) => function.head.start,
+            Head::LeftOut(omitted) => omitted.start,
+        }
+    }
+
+    /// Returns its addresses and origin.
+    #[inline(always)]
+    pub fn span(&self) -> Span
+        ensures { result ≡ head_span self.now }
+    {
+        match self {
+            Head::Kept(function, origin) => Span {
+                start: function.head.start,
+                size: u64::from(function.head.size),
+                origin: *origin,
+            },
+            Head::LeftOut(omitted) => Span {
+                start: omitted.start,
+                size: omitted.size,
+                origin: omitted.origin,
+            },
+        }
+    }
+}
