@@ -1,3 +1,4 @@
 pub mod LimitsHeld
 pub mod OverlapsSeen
+pub mod StoredAlone
 pub mod ByStart

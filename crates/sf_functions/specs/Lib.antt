@@ -1,3 +1,4 @@
 pub mod Order
 pub mod Neighbours
 pub mod Limits
+pub mod WithRows

@@ -4,7 +4,7 @@
 //! (`IsInOrder` of `specs/Order.antt`). [`shares_address`] tests two neighbours, and [`first_overlap`] finds the first
 //! two that share an address (`overlap_by` and `first_overlap` of `specs/Neighbours.antt`). [`exceeded`] returns which
 //! limit of one section numbers of functions and rows exceed (`exceeded` of `specs/Limits.antt`), and [`count_rows`]
-//! counts the rows of stored functions.
+//! counts the rows of stored functions. [`FunctionsWithRows`] are those functions of a list that have rows.
 //! Linking, merging, slimming and verifying use these calls.
 //!
 //! The caller owes [`count_rows`] functions that are within the limits, and the others nothing. Sorting may allocate;
@@ -15,8 +15,10 @@ mod counts;
 mod limits;
 mod neighbours;
 mod order;
+mod with_rows;
 
 pub use counts::count_rows;
 pub use limits::{Limit, MOST_FUNCTIONS, MOST_ROWS, exceeded};
 pub use neighbours::{HasSize, first_overlap, shares_address};
 pub use order::{HasStart, sort_by_start};
+pub use with_rows::{FunctionsWithRows, MayHaveRows};

@@ -1,9 +1,9 @@
 -- Functions whose rows are stored in one list.
-use Rattle.std.specs.List.{AllByRecursion, filter}
-use Rattle.std.specs.Option.{is_some, option_map}
-use Rattle.std.proofs.Common.{◌≡◌, ◌+◌, ◌<◌, ◌&&◌, ℕ, Bool, true, false, cond, All, List, [], ◌∷◌, ◌++◌, length, get_or, map, Option, Some, None, refl, sym, ap, ◌∙◌, arith}
+use Rattle.std.specs.List.{AllByRecursion}
+use Rattle.std.specs.Option.{option_map}
+use Rattle.std.proofs.Common.{◌≡◌, ◌&&◌, ℕ, Bool, true, false, cond, All, List, [], ◌∷◌, ◌++◌, get_or, map, refl, sym, ap, ◌∙◌}
 use Rattle.std.specs.Prelude.{nat_lt}
-use Rattle.std.proofs.lemmas.List.{get_or-map, length-map, map-append}
+use Rattle.std.proofs.lemmas.List.{map-append}
 use Rattle.std.proofs.lemmas.List.Elements.{All-from_recursion, recursion_from_All}
 use Rattle.sf_model.specs.declared.function.Func.{Func}
 use Rattle.sf_write.specs.declared.stored.StoredFunction.{StoredFunction}
@@ -17,7 +17,7 @@ use Rattle.sf_merge.specs.declared.head.FunctionHead.{FunctionHead}
 use Rattle.sf_merge.specs.declared.head.FunctionHead.TheVariants.{WithRows, WithoutRows}
 use Rattle.sf_merge.specs.declared.head.LocatedHead.{LocatedHead}
 use Rattle.sf_merge.specs.declared.located.Located.{Located}
-use Rattle.sf_merge.specs.Heads.{AreHeads, AreWithRows, RowsAreStored, AllRowsAreStored, all_in, function_of_head, head_size, head_start, is_with_rows, located_in, plain_head, shared_by_heads, stored_head, stored_heads}
+use Rattle.sf_merge.specs.Heads.{AreHeads, RowsAreStored, AllRowsAreStored, all_in, function_of_head, head_size, head_start, located_in, plain_head, shared_by_heads, stored_heads}
 use Rattle.sf_merge.specs.Located.{located_size, located_start}
 use Rattle.sf_merge.specs.Merging.{shared_address_fault, shared_by, merged_functions}
 
@@ -104,42 +104,3 @@ stored_by_recursion rows (x ∷ xs) h = stored_one rows x.item x.number x.head x
 
 pub all_stored : (rows : StoredRows) (heads : List LocatedHead) → AllRowsAreStored rows heads → All (IsStored rows) (stored_heads heads)
 all_stored rows heads h = All-from_recursion (IsStored rows) (stored_heads heads) (stored_by_recursion rows heads (recursion_from_All (Has rows) heads h))
-
--- ---- those with rows alone
-one_with_rows : (item number : ℕ) (f : FunctionHead) (heads : List LocatedHead) → stored_heads (filter is_with_rows heads) ≡ stored_heads heads
-    → stored_heads (filter is_with_rows (record { head = f; item = item; number = number } ∷ heads)) ≡ stored_heads (record { head = f; item = item; number = number } ∷ heads)
-one_with_rows item number (WithRows f) heads others = ap (λ (fs : List StoredFunction). f ∷ fs) others
-one_with_rows item number (WithoutRows head) heads others = others
-
--- functions without rows are not stored
-pub stored_with_rows : (heads : List LocatedHead) → stored_heads (filter is_with_rows heads) ≡ stored_heads heads
-stored_with_rows [] = refl
-stored_with_rows (x ∷ xs) = one_with_rows x.item x.number x.head xs (stored_with_rows xs)
-
-abbrev IsWithRows : LocatedHead → Type 0
-IsWithRows h = is_with_rows h ≡ true
-
-abbrev stored_or_none : LocatedHead → Option StoredFunction
-stored_or_none h = stored_head h.head
-
-one_stored : (item number : ℕ) (f : FunctionHead) (heads : List LocatedHead) → is_some (stored_head f) ≡ true → map stored_or_none heads ≡ map Some (stored_heads heads)
-    → stored_head f ∷ map stored_or_none heads ≡ map Some (stored_heads (record { head = f; item = item; number = number } ∷ heads))
-one_stored item number (WithRows f) heads is others = ap (λ (fs : List (Option StoredFunction)). Some f ∷ fs) others
-one_stored item number (WithoutRows head) heads is others = absurd (cc is)
-
-each_stored : (heads : List LocatedHead) → AllByRecursion IsWithRows heads → map stored_or_none heads ≡ map Some (stored_heads heads)
-each_stored [] are = refl
-each_stored (x ∷ xs) are = one_stored x.item x.number x.head xs are.0 (each_stored xs are.1)
-
-each_is_stored : (heads : List LocatedHead) → AreWithRows heads → map stored_or_none heads ≡ map Some (stored_heads heads)
-each_is_stored heads are = each_stored heads (recursion_from_All IsWithRows heads are)
-
--- how many functions with rows there are
-pub with_rows_len : (heads : List LocatedHead) → AreWithRows heads → length (stored_heads heads) ≡ length heads
-with_rows_len heads are = sym (length-map (stored_heads heads) Some) ∙ ap length (sym (each_is_stored heads are)) ∙ length-map heads stored_or_none
-
--- the function with a number
-pub with_rows_at : (heads : List LocatedHead) (i : ℕ) (h : LocatedHead) (d : StoredFunction) → AreWithRows heads → i < length heads → stored_head (get_or heads i h).head ≡ Some (get_or (stored_heads heads) i d)
-with_rows_at heads i h d are low =
-    sym (get_or-map stored_or_none heads i h None low) ∙ ap (λ (fs : List (Option StoredFunction)). get_or fs i None) (each_is_stored heads are)
-    ∙ get_or-map Some (stored_heads heads) i d None (omega (arith, low, with_rows_len heads are))

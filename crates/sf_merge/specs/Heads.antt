@@ -1,8 +1,7 @@
 -- Inside the crate. GNU SFrame specification, Version 2, function descriptor entries: functions of several sections, with a head for each
 -- and their rows stored in one list.
-use Rattle.std.specs.Prelude.{◌≡◌, ◌<◌, ℕ, Bool, true, List, [], All, map, length, Option, Some, None}
+use Rattle.std.specs.Prelude.{◌≡◌, ◌<◌, ℕ, true, List, [], All, map, length, Option, Some, None}
 use Rattle.std.specs.List.{filter_map}
-use Rattle.std.specs.Option.{is_some}
 use Rattle.sf_model.specs.declared.machine.Arch.{Arch}
 use Rattle.sf_model.specs.declared.function.Func.{Func}
 use Rattle.sf_model.specs.declared.function.FuncHead.{FuncHead}
@@ -67,17 +66,13 @@ abbrev pub stored_head : FunctionHead → Option StoredFunction
 stored_head (WithRows f) = Some f
 stored_head (WithoutRows head) = None
 
+-- the same of a function of a section
+abbrev pub stored_at : LocatedHead → Option StoredFunction
+stored_at h = stored_head h.head
+
 -- the stored functions of those heads that have rows, in order
 abbrev pub stored_heads : List LocatedHead → List StoredFunction
-stored_heads heads = filter_map (λ (h : LocatedHead). stored_head h.head) heads
-
--- the function has rows
-abbrev pub is_with_rows : LocatedHead → Bool
-is_with_rows h = is_some (stored_head h.head)
-
--- each of the functions has rows
-abbrev pub AreWithRows : List LocatedHead → Type 0
-AreWithRows heads = All (λ (h : LocatedHead). is_with_rows h ≡ true) heads
+stored_heads heads = filter_map stored_at heads
 
 -- the fault of two functions that share an address
 abbrev pub shared_by_heads : LocatedHead × LocatedHead → MergeFault

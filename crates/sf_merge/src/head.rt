@@ -1,9 +1,10 @@
 //! Functions of several sections without their rows, each with its section and its entry.
 
 ghost use Rattle.std.specs.Prelude.{◌≡◌};
-ghost use Rattle.sf_merge.specs.Heads.{plain_head};
+ghost use Rattle.std.specs.Option.{option_map};
+ghost use Rattle.sf_merge.specs.Heads.{plain_head, stored_head};
 
-use sf_functions::{HasSize, HasStart};
+use sf_functions::{HasSize, HasStart, MayHaveRows};
 use sf_model::FuncHead;
 use sf_write::StoredFunction;
 
@@ -25,6 +26,17 @@ impl FunctionHead {
         match self {
             FunctionHead::WithRows(function) => &function.head,
             FunctionHead::WithoutRows(head) => head,
+        }
+    }
+
+    /// Returns the function with the place of its rows, if it has any.
+    #[inline(always)]
+    pub fn stored(&self) -> Option<&StoredFunction>
+        ensures { option_map (λ f. f.now) result ≡ stored_head self.now }
+    {
+        match self {
+            FunctionHead::WithRows(function) => Some(function),
+            FunctionHead::WithoutRows(_) => None,
         }
     }
 }
@@ -59,5 +71,16 @@ impl HasSize for LocatedHead {
     #[inline(always)]
     fn size(&self) -> u64 {
         u64::from(self.head.plain().size)
+    }
+}
+
+impl MayHaveRows for LocatedHead {
+    ghost use Rattle.sf_merge.specs.Heads.{stored_at};
+
+    ghost stored_at = { stored_at };
+
+    #[inline(always)]
+    fn stored(&self) -> Option<&StoredFunction> {
+        self.head.stored()
     }
 }

@@ -33,7 +33,6 @@ mod merging;
 mod notices;
 mod overlap;
 mod reading;
-mod with_rows;
 
 pub use fault::MergeFault;
 pub use in_section::{SectionEntry, SectionFunctions};
