@@ -1,5 +1,6 @@
 //! A function that was read, kept or omitted.
 
+use sf_functions::{HasStart, MayHaveRows};
 use sf_model::{Omission, Omitted, Origin, Span};
 use sf_write::{PackedFunction, StoredFunction};
 
@@ -48,17 +49,6 @@ impl Head {
     ghost use Rattle.std.specs.Prelude.{◌≡◌};
     ghost use Rattle.frame_functions.specs.Heads.{head_span};
 
-    /// Returns its first address.
-    #[inline(always)]
-    pub fn start(&self) -> u64
-        ensures { result ≡ (head_span self.now).start }
-    {
-        match self {
-            Head::Kept(function, _) => function.head.start,
-            Head::LeftOut(omitted) => omitted.start,
-        }
-    }
-
     /// Returns its addresses and origin.
     #[inline(always)]
     pub fn span(&self) -> Span
@@ -75,6 +65,34 @@ impl Head {
                 size: omitted.size,
                 origin: omitted.origin,
             },
+        }
+    }
+}
+
+impl HasStart for Head {
+    ghost use Rattle.frame_functions.specs.Heads.{head_start};
+
+    ghost first_address = { head_start };
+
+    #[inline(always)]
+    fn start(&self) -> u64 {
+        match self {
+            Head::Kept(function, _) => function.head.start,
+            Head::LeftOut(omitted) => omitted.start,
+        }
+    }
+}
+
+impl MayHaveRows for Head {
+    ghost use Rattle.frame_functions.specs.Heads.{stored_at};
+
+    ghost stored_at = { stored_at };
+
+    #[inline(always)]
+    fn stored(&self) -> Option<&StoredFunction> {
+        match self {
+            Head::Kept(function, _) => Some(function),
+            Head::LeftOut(_) => None,
         }
     }
 }

@@ -5,7 +5,7 @@
 //! omitted with the first reason. Past the limits of a run functions are only counted. Omitted functions can be lent as
 //! their records describe them ([`Sources`]); what the functions of one common information entry share is held once.
 //! [`content_pieces`] runs the instructions of one of them. [`Entries::in_order`] brings functions into the order of their
-//! starts, and [`OrderedEntries::part`] separates kept from omitted ones ([`InputFunctions`]).
+//! starts, and [`Entries::part`] separates kept from omitted ones ([`InputFunctions`]).
 //!
 //! A section has fewer than 2^32 bytes. All allocate; no section is copied. While a function is read, its rows are held as
 //! bytes.
@@ -28,7 +28,8 @@ mod source;
 mod sources;
 
 pub use call_frame_section::CallFrameSection;
-pub use entries::{Entries, InputFunctions, KeptFunctions, OrderedEntries};
+pub use entries::{Entries, InputFunctions};
+pub use entry::Head;
 pub use fault::AsmFault;
 pub use keyed_content::KeyedContent;
 pub use pieces::content_pieces;

@@ -16,7 +16,7 @@ use crate::fault::GatherFault;
 use crate::input::Input;
 use crate::inputs::{AllFunctions, one_machine, read_all};
 use crate::overlaps::Overlaps;
-use frame_functions::{InputFunctions, OrderedEntries, Sources};
+use frame_functions::{Entries, InputFunctions, Sources};
 use sf_model::Arch;
 use std::alloc::Global;
 
@@ -34,13 +34,13 @@ pub struct WithSources<'a> {
 pub struct ReadInOrder<'a> {
     /// Their machine.
     pub arch: Arch,
-    pub entries: OrderedEntries,
+    pub entries: Entries,
     /// The omitted ones as their records describe them, in the order of the inputs, or none.
     pub sources: Sources<'a>,
 }
 
 /// Checks that no function that has bytes begins before the end of the one before it.
-fn check_overlaps(entries: &OrderedEntries) -> Result<(), GatherFault>
+fn check_overlaps(entries: &Entries) -> Result<(), GatherFault>
     ensures { result ≡ unless (option_map overlap_fault (overlap_in (spans_of entries.now))) }
 {
     let mut overlaps = Overlaps::new();
@@ -71,7 +71,7 @@ pub fn ordered<'a>(
     let AllFunctions { machines, read } = read_all(alloc, first_item(before), inputs, lending)?;
     let arch = one_machine(before, &machines)?;
     let held = read.within_limits()?;
-    let entries = held.entries.in_order(alloc)?;
+    let entries = held.entries.in_order()?;
     check_overlaps(&entries)?;
     Ok(ReadInOrder {
         arch,

@@ -25,10 +25,11 @@ use crate::fault::{GatherFault, LinkFault};
 use crate::gathering::{WithSources, first_item, gather_together, gather_with_sources, ordered};
 use crate::input::Input;
 use crate::linked::{Linked, link_gathered};
-use frame_functions::{KeptFunctions, OrderedEntries, Source, Sources, content_pieces};
+use frame_functions::{Entries, Head, Source, Sources, content_pieces};
 use cfa_machine::Runner;
 use sf_base::NoMemory;
 use sf_express::{Piece, piece_at, pieces_of_rows};
+use sf_functions::FunctionsWithRows;
 use sf_model::{Arch, Content, Func, Key, Omitted, Span};
 use sf_write::{StoredList, StoredRows};
 use std::alloc::{AllocError, Global};
@@ -64,7 +65,7 @@ fn sort_out(
     arch: Arch,
     first: u32,
     count: usize,
-    entries: &OrderedEntries,
+    entries: &Entries,
 ) -> Result<Gathered, AllocError>
     requires { All (λ entry. (first ≤ entry.span.origin.item) × (entry.span.origin.item < first + count)) entries.now }
     ensures arch { IfOk result (λ g. g.arch ≡ arch) }
@@ -246,7 +247,7 @@ fn gather_accepted<'a>(alloc: Global, inputs: &[Input<'a>]) -> Result<WithSource
 fn functions(
     alloc: Global,
     rows: &StoredRows,
-    kept: &KeptFunctions,
+    kept: &FunctionsWithRows<Head>,
 ) -> Result<Vec<Func>, AllocError>
     requires { All (IsStored rows.now) kept.now }
     ensures { IfOk result (λ functions. functions.items ≡ map (stored_in rows.now) kept.now) }

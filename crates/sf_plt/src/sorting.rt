@@ -14,8 +14,9 @@ ghost use Rattle.sf_plt.specs.Written.{plt_pair};
 
 use crate::pair::{first_entry, later_entries};
 use crate::table::table_content;
-use frame_functions::{KeptFunctions, Source, Sources};
+use frame_functions::{Head, Source, Sources};
 use sf_base::NoMemory;
+use sf_functions::FunctionsWithRows;
 use sf_model::{Arch, Content, Func, Omitted, Span};
 use sf_write::{StoredFunction, StoredList, StoredRows};
 use std::alloc::Global;
@@ -82,7 +83,7 @@ impl Sorted {
 }
 
 /// Lists the kept functions.
-fn listed(alloc: Global, kept: KeptFunctions) -> Result<Vec<StoredFunction>, NoMemory>
+fn listed(alloc: Global, kept: FunctionsWithRows<Head>) -> Result<Vec<StoredFunction>, NoMemory>
     ensures { IfOk result (λ functions. functions.items ≡ kept) }
 {
     let mut functions = Vec::with_capacity(alloc, kept.len())?;
@@ -98,7 +99,7 @@ pub fn sort_out(
     alloc: Global,
     arch: Arch,
     rows: StoredRows,
-    kept: KeptFunctions,
+    kept: FunctionsWithRows<Head>,
     omitted: &[Omitted],
     sources: &Sources<'_>,
 ) -> Result<Sorted, NoMemory>

@@ -4,7 +4,7 @@ use Rattle.frame_functions.specs.ContentAt.{Answers}
 use Rattle.sf_verify.specs.Agreement.{Agree}
 use Rattle.sf_verify.specs.Comparing.{Compares, IsComparable, func_read, func_says}
 use Rattle.sf_verify.proofs.Compared.{agree_self, later}
-use Rattle.sf_asm.proofs.RowAt.{if_ok}
+use Rattle.frame_functions.proofs.Lending.{if_ok}
 use Rattle.sf_verify.proofs.sweep.compare_function.Goals as goal
 
 pub returns-then-keeps-clause-ready : goal.returns-then-keeps-clause-ready
