@@ -9,6 +9,7 @@ ghost use Rattle.sf_write.specs.declared.stored.StoredFunction.{StoredFunction a
 ghost use Rattle.sf_write.specs.Stored.{IsStored, stored_in};
 
 use crate::entry::{Entry, Expressed, Head};
+use crate::sources::Sources;
 use sf_functions::{FunctionsWithRows, sort_by_start};
 use sf_model::{Arch, Func, Omission, Omitted, Span};
 use sf_write::{PackedRows, StoredRows};
@@ -24,7 +25,7 @@ pub struct Entries {
 
 /// The functions of all inputs together, the kept and the omitted ones.
 #[derive(Drop)]
-pub struct InputFunctions {
+pub struct InputFunctions<'a> {
     /// The machine of all inputs.
     pub arch: Arch,
     /// The rows of the kept functions.
@@ -33,6 +34,8 @@ pub struct InputFunctions {
     pub kept: FunctionsWithRows<Head>,
     /// The functions that it can't, by start and then origin.
     pub omitted: Vec<Omitted>,
+    /// The same as their records describe them, in the same order. There are none unless they are lent.
+    pub sources: Sources<'a>,
 }
 
 impl Model for Entries {
@@ -159,12 +162,19 @@ impl Entries {
         Ok(omitted)
     }
 
-    /// Parts the kept functions from the omitted ones, all of which are of one machine.
-    pub fn part(self, alloc: Global, arch: Arch) -> Result<InputFunctions, AllocError>
+    /// Parts the kept functions from the omitted ones, all of which are of one machine. The sources are those of the
+    /// omitted ones, or none.
+    pub fn part<'a>(
+        self,
+        alloc: Global,
+        arch: Arch,
+        sources: Sources<'a>,
+    ) -> Result<InputFunctions<'a>, AllocError>
         ensures arch { IfOk result (λ parted. parted.arch ≡ arch) }
         ensures stored { IfOk result (λ parted. All (IsStored parted.rows) parted.kept) }
         ensures kept { IfOk result (λ parted. map (stored_in parted.rows) parted.kept ≡ kept_of self) }
         ensures omitted { IfOk result (λ parted. parted.omitted.items ≡ omitted_of self) }
+        ensures sources { IfOk result (λ parted. parted.sources ≡ sources.entry) }
     {
         let omitted = self.omitted(alloc)?;
         let Entries { heads, rows } = self;
@@ -173,6 +183,7 @@ impl Entries {
             rows,
             kept: FunctionsWithRows::of(heads),
             omitted,
+            sources,
         })
     }
 

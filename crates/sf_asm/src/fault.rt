@@ -65,6 +65,26 @@ impl<T: Drop> From<AllocFailed<T>> for GatherFault {
     }
 }
 
+impl From<AllocError> for LinkFault {
+    ghost use Rattle.sf_asm.specs.declared.fault.LinkFault.TheVariants.{NoMemory};
+
+    ghost from_gives = { λ _ e. e ≡ NoMemory };
+
+    fn from(_: AllocError) -> LinkFault {
+        LinkFault::NoMemory
+    }
+}
+
+impl From<sf_base::NoMemory> for LinkFault {
+    ghost use Rattle.sf_asm.specs.declared.fault.LinkFault.TheVariants.{NoMemory as OutOfMemory};
+
+    ghost from_gives = { λ _ e. e ≡ OutOfMemory };
+
+    fn from(_: sf_base::NoMemory) -> LinkFault {
+        LinkFault::NoMemory
+    }
+}
+
 impl From<Limit> for GatherFault {
     ghost use Rattle.sf_asm.specs.Linking.{fault_of_limit};
 

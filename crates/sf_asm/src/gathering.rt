@@ -20,15 +20,6 @@ use frame_functions::{Entries, InputFunctions, Sources};
 use sf_model::Arch;
 use std::alloc::Global;
 
-/// The functions of all inputs together, with the omitted ones as their records describe them.
-#[derive(Drop)]
-pub struct WithSources<'a> {
-    /// The functions of all inputs together.
-    pub functions: InputFunctions,
-    /// The omitted ones as their records describe them, in the same order.
-    pub sources: Sources<'a>,
-}
-
 /// The functions of all inputs, in order.
 #[derive(Drop)]
 pub struct ReadInOrder<'a> {
@@ -96,11 +87,11 @@ pub fn first_item(before: Option<Arch>) -> u32
 /// # Errors
 ///
 /// Those of [`gather`](crate::gather).
-pub fn gather_together(
+pub fn gather_together<'a>(
     alloc: Global,
-    inputs: &[Input<'_>],
+    inputs: &[Input<'a>],
     before: Option<Arch>,
-) -> Result<InputFunctions, GatherFault>
+) -> Result<InputFunctions<'a>, GatherFault>
     requires some { (0 < length inputs.now) × (length inputs.now ≤ 512) }
     requires small { All (λ input. length (object_of input).bytes < 2 ^ 32) inputs.now }
     // The functions are those of the inputs by rising start, and one section can hold them.
@@ -114,7 +105,7 @@ pub fn gather_together(
     ensures answered { IfErr result (λ fault. IsTrue (is_gather_answered fault)) }
 {
     let read = ordered(alloc, inputs, before, false)?;
-    Ok(read.entries.part(alloc, read.arch)?)
+    Ok(read.entries.part(alloc, read.arch, read.sources)?)
 }
 
 /// Gathers the functions of 1 to 512 inputs as [`gather_together`] does, and lends the omitted ones as their
@@ -127,25 +118,21 @@ pub fn gather_with_sources<'a>(
     alloc: Global,
     inputs: &[Input<'a>],
     before: Option<Arch>,
-) -> Result<WithSources<'a>, GatherFault>
+) -> Result<InputFunctions<'a>, GatherFault>
     requires some { (0 < length inputs.now) × (length inputs.now ≤ 512) }
     requires small { All (λ input. length (object_of input).bytes < 2 ^ 32) inputs.now }
     // The functions are those of the inputs by rising start, one section can hold the kept ones, and the
     // sources are the omitted ones, one for each in the same order.
-    ensures gathered { IfOk result (λ g. AreWithSources before (map object_of inputs.now) g.functions.arch (map (stored_in g.functions.rows) g.functions.kept) g.functions.omitted.items g.sources.functions) }
+    ensures gathered { IfOk result (λ g. AreWithSources before (map object_of inputs.now) g.arch (map (stored_in g.rows) g.kept) g.omitted.items g.sources.functions) }
     // The rows of the kept functions are those of the list.
-    ensures stored { IfOk result (λ g. All (IsStored g.functions.rows) g.functions.kept) }
+    ensures stored { IfOk result (λ g. All (IsStored g.rows) g.kept) }
     // All items have this machine.
-    ensures machine { IfOk result (λ g. HaveMachine before (map object_of inputs.now) g.functions.arch) }
+    ensures machine { IfOk result (λ g. HaveMachine before (map object_of inputs.now) g.arch) }
     // A fault is the first one.
     ensures fault { IfErr result (IsFirstGathered before (map object_of inputs.now)) }
     ensures answered { IfErr result (λ fault. IsTrue (is_gather_answered fault)) }
 {
     let mut read = ordered(alloc, inputs, before, true)?;
     read.sources.sort()?;
-    let functions = read.entries.part(alloc, read.arch)?;
-    Ok(WithSources {
-        functions,
-        sources: read.sources,
-    })
+    Ok(read.entries.part(alloc, read.arch, read.sources)?)
 }

@@ -31,7 +31,7 @@ mod overlaps;
 mod reading;
 
 pub use fault::{GatherFault, LinkFault};
-pub use gathering::{WithSources, gather_together, gather_with_sources};
+pub use gathering::{gather_together, gather_with_sources};
 pub use input::{Input, InputBytes};
 pub use laws::{
     accepted_inputs_are_linked, functions_are_described, inputs_that_can_be_gathered_are,

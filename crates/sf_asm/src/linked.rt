@@ -34,16 +34,16 @@ pub struct Linked {
 /// A function too far from the section; memory may run out.
 pub fn link_gathered(
     alloc: Global,
-    functions: InputFunctions,
+    functions: InputFunctions<'_>,
     at: u64,
 ) -> Result<Linked, LinkFault>
     requires stored { All (IsStored functions.rows) functions.kept }
     requires writable { AreWritable functions.arch (map (stored_in functions.rows) functions.kept) }
     // It is the section of the inputs whose functions these are.
-    ensures linked { IfOk result (λ linked. (before : Option machine) (objects : List Object) → AreTogether before objects functions.arch (map (stored_in functions.rows) functions.kept) functions.omitted.items → HaveMachine before objects functions.arch → IsLinked before objects at linked.section.items linked.kept linked.omitted.items) }
+    ensures linked { IfOk result (λ linked. (before : Option machine) (objects : List Object) → AreTogether before objects functions.entry.arch (map (stored_in functions.entry.rows) functions.entry.kept) functions.entry.omitted.items → HaveMachine before objects functions.entry.arch → IsLinked before objects at linked.section.items linked.kept linked.omitted.items) }
     ensures are_bytes { IfOk result (λ linked. AreBytes linked.section.items) }
     // A fault is their first one.
-    ensures fault { IfErr result (λ fault. (before : Option machine) (objects : List Object) → AreTogether before objects functions.arch (map (stored_in functions.rows) functions.kept) functions.omitted.items → IsFirstLinked before objects at fault) }
+    ensures fault { IfErr result (λ fault. (before : Option machine) (objects : List Object) → AreTogether before objects functions.entry.arch (map (stored_in functions.entry.rows) functions.entry.kept) functions.entry.omitted.items → IsFirstLinked before objects at fault) }
     ensures answered { IfErr result (λ fault. IsTrue (is_answered fault)) }
 {
     let InputFunctions {
@@ -51,6 +51,7 @@ pub fn link_gathered(
         rows,
         kept,
         omitted,
+        ..
     } = functions;
     let section = write_stored(alloc, arch, at, &rows, &kept)?;
     Ok(Linked {

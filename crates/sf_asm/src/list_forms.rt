@@ -22,10 +22,10 @@ ghost use Rattle.sf_asm.specs.Sources.{AreWithSources};
 ghost use Rattle.sf_write.specs.Stored.{IsStored, stored_in};
 
 use crate::fault::{GatherFault, LinkFault};
-use crate::gathering::{WithSources, first_item, gather_together, gather_with_sources, ordered};
+use crate::gathering::{first_item, gather_together, gather_with_sources, ordered};
 use crate::input::Input;
 use crate::linked::{Linked, link_gathered};
-use frame_functions::{Entries, Head, Source, Sources, content_pieces};
+use frame_functions::{Entries, Head, InputFunctions, Source, Sources, content_pieces};
 use cfa_machine::Runner;
 use sf_base::NoMemory;
 use sf_express::{Piece, piece_at, pieces_of_rows};
@@ -230,12 +230,12 @@ fn only_memory(fault: GatherFault) -> NoMemory
 }
 
 /// Gathers the functions of inputs that can be gathered.
-fn gather_accepted<'a>(alloc: Global, inputs: &[Input<'a>]) -> Result<WithSources<'a>, NoMemory>
+fn gather_accepted<'a>(alloc: Global, inputs: &[Input<'a>]) -> Result<InputFunctions<'a>, NoMemory>
     requires some { (0 < length inputs.now) × (length inputs.now ≤ 512) }
     requires small { All (λ input. length (object_of input).bytes < 2 ^ 32) inputs.now }
     requires accepted { CanBeGathered None (map object_of inputs.now) }
-    ensures gathered { IfOk result (λ g. AreWithSources None (map object_of inputs.now) g.functions.arch (map (stored_in g.functions.rows) g.functions.kept) g.functions.omitted.items g.sources.functions) }
-    ensures stored { IfOk result (λ g. All (IsStored g.functions.rows) g.functions.kept) }
+    ensures gathered { IfOk result (λ g. AreWithSources None (map object_of inputs.now) g.arch (map (stored_in g.rows) g.kept) g.omitted.items g.sources.functions) }
+    ensures stored { IfOk result (λ g. All (IsStored g.rows) g.kept) }
 {
     match gather_with_sources(alloc, inputs, None) {
         Ok(gathered) => Ok(gathered),
@@ -279,7 +279,7 @@ pub fn row_at(
     ensures { IfOk result (λ row. (functions : List Function) → Describe 0 (map object_of inputs.now) (Ok functions) → RowAt functions pc row) }
 {
     let gathered = gather_accepted(alloc, inputs)?;
-    let kept = functions(alloc, &gathered.functions.rows, &gathered.functions.kept)?;
+    let kept = functions(alloc, &gathered.rows, &gathered.kept)?;
     if let Some(func) = kept_at(&kept, pc) {
         return kept_row(alloc, func, pc);
     }

@@ -18,7 +18,9 @@ use Rattle.sf_model.specs.Function.{AreWritable, IsWritable}
 use Rattle.sf_model.specs.Section.{Section}
 use Rattle.sf_model.specs.Table.{row_count}
 use Rattle.sf_model.specs.Tight.{Narrow, Tight}
-use Rattle.sf_write.specs.Reach.{first_out_of_reach}
+use Rattle.sf_write.specs.declared.fault.WriteFault.{WriteFault}
+use Rattle.sf_write.specs.declared.fault.WriteFault.TheVariants as write
+use Rattle.sf_write.specs.Reach.{Refuses, first_out_of_reach}
 use Rattle.sf_write.specs.Section.{table_of}
 use Rattle.sf_functions.specs.Limits.{exceeded}
 use Rattle.sf_functions.specs.Order.{IsInOrder}
@@ -48,7 +50,7 @@ use Rattle.sf_asm.proofs.OneMachine.{machine_of_functions}
 use Rattle.sf_model.proofs.StableOrder.{one_order_of}
 use Rattle.sf_plt.specs.Answers.{IsFirstPltLinked, IsPltLinkedWith, others_in, plt_span}
 use Rattle.sf_plt.specs.Linking.{LinksPlts, LinksPltsFrom, further_fault, plt_link_fault, plts_fault, unless_fault}
-use Rattle.sf_asm.specs.Fault.{wraps_gathering}
+use Rattle.sf_asm.specs.Fault.{wraps_gathering, wraps_writing}
 use Rattle.sf_plt.specs.Plt.{is_plt, plt_functions}
 use Rattle.sf_plt.specs.Sorting.{func_start}
 use Rattle.sf_plt.specs.Written.{first_entry, later_entries, plt_pair, written_functions}
@@ -278,6 +280,13 @@ out_of_reach before objects at functions sorted start h order few far =
     (ap (λ (first : Option GatherFault). or_later (option_map link.Gather (or_later first (plts_fault sorted))) (option_map link.OutOfReach (first_out_of_reach at 0 (written_functions sorted)))) h.checked
     ∙ ap (λ (first : Option GatherFault). or_later (option_map link.Gather first) (option_map link.OutOfReach (first_out_of_reach at 0 (written_functions sorted)))) few
     ∙ ap (option_map link.OutOfReach) far)
+
+-- a fault of writing is the first one
+pub first_written : (before : Option Arch) (objects : List Object) (at : ℕ) (functions sorted : List Function) (fault : WriteFault) (written : List Func) → Ready before objects functions sorted → AreByStart functions sorted → plts_fault sorted ≡ None → written ≡ written_functions sorted
+    → Refuses fault (first_out_of_reach at 0 written) → IsFirstPltLinked before objects at (wraps_writing fault)
+first_written before objects at functions sorted (write.OutOfReach start) written h order few is refused =
+    inr (out_of_reach before objects at functions sorted start h order few (ap (first_out_of_reach at 0) (sym is) ∙ refused))
+first_written before objects at functions sorted write.NoMemory written h order few is refused = inl refl
 
 pub accepted_by : (at : ℕ) (sorted : List Function) → functions_fault (map entry_of sorted) ≡ None → plts_fault sorted ≡ None → first_out_of_reach at 0 (written_functions sorted) ≡ None → plt_link_fault at sorted ≡ None
 accepted_by at sorted checked few near =

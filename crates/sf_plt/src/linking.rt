@@ -1,19 +1,18 @@
 //! The section of several inputs, with their procedure linkage tables.
 
-ghost use Rattle.std.specs.Prelude.{◌≡◌, ◌≤◌, ◌<◌, ◌^◌, All, length, map, IfOk, IfErr, IsTrue};
+ghost use Rattle.std.specs.Prelude.{◌≤◌, ◌<◌, ◌^◌, All, length, map, IfOk, IfErr, IsTrue};
 ghost use Rattle.sf_model.specs.Section.{AreBytes};
-ghost use Rattle.sf_asm.specs.Fault.{is_answered, wraps_gathering};
+ghost use Rattle.sf_asm.specs.Fault.{is_answered};
 ghost use Rattle.sf_asm.specs.Functions.{object_of};
 ghost use Rattle.sf_plt.specs.Answers.{IsFirstPltLinked, IsPltLinked, IsPltLinkedWith};
 
 use crate::limits::{Counts, check_tables};
 use crate::sorting::sort_out;
 use frame_functions::{InputFunctions, Sources};
-use sf_asm::{GatherFault, Input, LinkFault, WithSources, gather_with_sources};
-use sf_base::NoMemory;
+use sf_asm::{Input, LinkFault, gather_with_sources};
 use sf_functions::{count_rows, sort_by_start};
 use sf_model::{Arch, Omitted, Span};
-use sf_write::{StoredList, WriteFault, write_stored};
+use sf_write::{StoredList, write_stored};
 use std::alloc::Global;
 
 /// A section, and what it holds.
@@ -38,16 +37,6 @@ pub struct PltLinkedWithSources<'a> {
     pub sources: Sources<'a>,
 }
 
-/// Converts a fault of gathering to one of linking. Out of memory has a fault of its own.
-fn not_gathered(fault: GatherFault) -> LinkFault
-    ensures { result ≡ wraps_gathering fault }
-{
-    match fault {
-        GatherFault::NoMemory => LinkFault::NoMemory,
-        _ => LinkFault::Gather(fault),
-    }
-}
-
 /// Makes the section of 1 to 512 inputs as [`link_plt`] does, and lends the functions that SFrame can't express.
 ///
 /// # Errors
@@ -69,24 +58,18 @@ pub fn link_plt_with_sources<'a>(
     ensures fault { IfErr result (IsFirstPltLinked before (map object_of inputs.now) at) }
     ensures answered { IfErr result (λ fault. IsTrue (is_answered fault)) }
 {
-    let gathered = match gather_with_sources(alloc, inputs, before) {
-        Ok(gathered) => gathered,
-        Err(fault) => return Err(not_gathered(fault)),
-    };
-    let WithSources { functions, sources } = gathered;
+    let gathered = gather_with_sources(alloc, inputs, before)?;
     let InputFunctions {
         arch,
         rows,
         kept,
         omitted,
-    } = functions;
+        sources,
+    } = gathered;
     let count = kept.len();
     let functions = count + omitted.len();
     let row_count = count_rows(&kept) as usize;
-    let mut sorted = match sort_out(alloc, arch, rows, kept, &omitted, &sources) {
-        Ok(sorted) => sorted,
-        Err(NoMemory) => return Err(LinkFault::NoMemory),
-    };
+    let mut sorted = sort_out(alloc, arch, rows, kept, &omitted, &sources)?;
     let tables = sorted.plts.len();
     let counts = Counts {
         functions,
@@ -97,23 +80,17 @@ pub fn link_plt_with_sources<'a>(
         Ok(()) => (),
         Err(fault) => return Err(LinkFault::Gather(fault)),
     }
-    match sort_by_start(&mut sorted.written) {
-        Ok(()) => (),
-        Err(_) => return Err(LinkFault::NoMemory),
-    }
-    match write_stored(alloc, arch, at, &sorted.rows, &sorted.written) {
-        Ok(section) => Ok(PltLinkedWithSources {
-            linked: PltLinked {
-                section,
-                kept: count as u32,
-                omitted: sorted.omitted,
-                plts: sorted.plts,
-            },
-            sources,
-        }),
-        Err(WriteFault::OutOfReach(start)) => Err(LinkFault::OutOfReach(start)),
-        Err(WriteFault::NoMemory) => Err(LinkFault::NoMemory),
-    }
+    sort_by_start(&mut sorted.written)?;
+    let section = write_stored(alloc, arch, at, &sorted.rows, &sorted.written)?;
+    Ok(PltLinkedWithSources {
+        linked: PltLinked {
+            section,
+            kept: count as u32,
+            omitted: sorted.omitted,
+            plts: sorted.plts,
+        },
+        sources,
+    })
 }
 
 /// Makes the SFrame section of 1 to 512 inputs, for the address `at`, as `sf_link::link` does, with two functions

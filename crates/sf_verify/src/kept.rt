@@ -16,7 +16,7 @@ use std::marker::Model;
 /// they are stored when they are asked for.
 #[derive(Drop)]
 pub struct Kept<'a> {
-    functions: &'a InputFunctions,
+    functions: &'a InputFunctions<'a>,
 }
 
 impl<'a> Model for Kept<'a> {
@@ -33,7 +33,7 @@ impl<'a> Model for Kept<'a> {
 
 impl<'a> Kept<'a> {
     /// Returns the kept functions of all inputs.
-    pub fn new(functions: &'a InputFunctions) -> Kept<'a>
+    pub fn new(functions: &'a InputFunctions<'a>) -> Kept<'a>
         requires { All (IsStored functions.now.rows) functions.now.kept }
         ensures { result ≡ kept_in functions.now }
     {

@@ -18,7 +18,8 @@ use crate::fault::VerifyFault;
 use crate::kept::Kept;
 use crate::overlap::shared_address;
 use crate::sweep::compare;
-use sf_asm::{GatherFault, Input, WithSources, gather_with_sources};
+use frame_functions::InputFunctions;
+use sf_asm::{GatherFault, Input, gather_with_sources};
 use sf_base::NoMemory;
 use sf_decode::View;
 use sf_merge::{SectionFunctions, in_order};
@@ -47,19 +48,18 @@ fn verdict_on(
     alloc: Global,
     view: &View<'_>,
     ordered: &SectionFunctions<'_>,
-    gathered: &WithSources<'_>,
+    gathered: &InputFunctions<'_>,
 ) -> Result<Verdict, NoMemory>
-    requires machine { gathered.now.functions.arch ≡ (table_of view.now).arch }
-    requires comparable { AreComparable gathered.now.functions.arch ordered.now }
+    requires machine { gathered.now.arch ≡ (table_of view.now).arch }
+    requires comparable { AreComparable gathered.now.arch ordered.now }
     requires rise { StartsRise ordered.now }
-    requires holders { AreHolders gathered.now.functions.arch (answers_of (kept_in gathered.now.functions) gathered.now.sources.functions) (kept_in gathered.now.functions) gathered.now.sources.functions }
-    requires stored { All (IsStored gathered.now.functions.rows) gathered.now.functions.kept }
-    requires few { length (kept_in gathered.now.functions) ≤ 2 ^ 21 }
-    requires kept { KeptRise (kept_in gathered.now.functions) }
-    ensures { IfOk result (IsVerdictBy (table_of view.now).functions (located_functions ordered.now) (kept_in gathered.now.functions) (answers_of (kept_in gathered.now.functions) gathered.now.sources.functions)) }
+    requires holders { AreHolders gathered.now.arch (answers_of (kept_in gathered.now) gathered.now.sources.functions) (kept_in gathered.now) gathered.now.sources.functions }
+    requires stored { All (IsStored gathered.now.rows) gathered.now.kept }
+    requires few { length (kept_in gathered.now) ≤ 2 ^ 21 }
+    requires kept { KeptRise (kept_in gathered.now) }
+    ensures { IfOk result (IsVerdictBy (table_of view.now).functions (located_functions ordered.now) (kept_in gathered.now) (answers_of (kept_in gathered.now) gathered.now.sources.functions)) }
 {
-    let WithSources { functions, sources } = gathered;
-    let mut dwarf = DwarfCursor::new(alloc, functions.arch, Kept::new(functions), sources);
+    let mut dwarf = DwarfCursor::new(alloc, gathered.arch, Kept::new(gathered), &gathered.sources);
     if let Some(difference) = compare(alloc, ordered, &mut dwarf)? {
         return Ok(Verdict::Differs {
             pc: difference.pc,
@@ -70,7 +70,7 @@ fn verdict_on(
     let checked = count_plain(view);
     Ok(Verdict::Agrees {
         checked,
-        missing: count_missing(&Kept::new(functions), ordered),
+        missing: count_missing(&Kept::new(gathered), ordered),
         repeats: view.len() - checked,
     })
 }

@@ -6,6 +6,7 @@ use Rattle.frame_functions.specs.Entry.{kept_of, omitted_of}
 use Rattle.sf_asm.specs.Functions.{object_of}
 use Rattle.sf_asm.specs.Inputs.{first_item}
 use Rattle.sf_asm.specs.Linking.{Gathers}
+use Rattle.frame_functions.specs.Sources.{SourcesView}
 use Rattle.sf_asm.proofs.ByStart.{are_by_start, ordered_are, sorted_functions, sources_are}
 use Rattle.sf_asm.proofs.Described.{describe}
 use Rattle.sf_asm.proofs.GatheredInputs.{are_read}
@@ -20,7 +21,7 @@ returns-clause-gathered c =
     let entries = c.in_ok-read.read.entries in
     let read = are_read c.args.before objects entries c.in_ok-read.ensures.gathered in
     let is = ordered_are read.functions entries read.in_order in
-    let kept = c.in_ok-functions.ensures.kept in
+    let kept = c.in_ok-part.ensures.kept in
     record {
       functions = read.functions;
       are = describe (first_item c.args.before) objects (Ok read.functions) read.are;
@@ -28,9 +29,9 @@ returns-clause-gathered c =
       by_start = are_by_start read.functions;
       is = subst (λ (es : List Entry). Gathers c.args.before objects (Ok es)) is c.in_ok-read.ensures.gathered;
       kept_are = kept ∙ ap kept_of is;
-      writable = rw c.in_ok-functions.ensures.arch (subst (AreWritable c.in_ok-read.read.arch) (sym kept) (kept_of_checked c.in_ok-read.read.arch entries c.in_ok-read.ensures.sound c.in_ok-read.ensures.checked));
-      omitted_are = c.in_ok-functions.ensures.omitted ∙ ap omitted_of is;
-      sources_are = sources_are read.functions c.in_ok-read.read.sources.functions c.sort.new.self.functions (are_lent _ read.functions _ read.are (c.in_ok-read.ensures.lent refl)) c.in_ok-sort.ensures;
+      writable = rw c.in_ok-part.ensures.arch (subst (AreWritable c.in_ok-read.read.arch) (sym kept) (kept_of_checked c.in_ok-read.read.arch entries c.in_ok-read.ensures.sound c.in_ok-read.ensures.checked));
+      omitted_are = c.in_ok-part.ensures.omitted ∙ ap omitted_of is;
+      sources_are = ap (λ (s : SourcesView). s.functions) c.in_ok-part.ensures.sources ∙ sources_are read.functions c.in_ok-read.read.sources.functions c.sort.new.self.functions (are_lent _ read.functions _ read.are (c.in_ok-read.ensures.lent refl)) c.in_ok-sort.ensures;
     }
 
 pub returns-in_err-read-clause-answered : goal.returns-in_err-read-clause-answered
