@@ -113,7 +113,7 @@ rows_fault k initial f s n full before [] init h counted = refl
 rows_fault k initial f s n full before (Err e ∷ items) init h counted = refl
 rows_fault k initial f s n full before (Ok (place, i) ∷ items) init h counted =
     let effect = effect_by f i in
-    let m = offset_behind k.code effect n in
+    let m = offset_behind k.code_alignment_factor effect n in
     let behind = after_instruction initial effect full in
     run_then k s m behind (step k place effect s) (λ t. rows_from k f t items) _ _ (run_faults k place effect s n full before h counted) (step_agrees k initial place effect s n full init h)
     (λ t agrees none. rows_fault k initial f t m behind (before ++ Ok (place, i) ∷ []) items init agrees (stays_counted k.arch f initial place i full before counted none))
@@ -131,7 +131,7 @@ both_then arch (Err f) row next here later e change go = ap (λ (x : Option Mach
 
 pub rows_by-fault : (arch : Arch) (code : ℕ) (f : ℤ) (size : ℕ) (cie fde : List Item) → fault_of (rows_by arch code f size cie fde) ≡ first_fault arch f cie fde
 rows_by-fault arch code f size cie fde = both_then arch (initial_columns arch f no_columns cie) (initial_by f no_row cie) _ _ _ (from_none arch f cie) (changes_none arch f cie) (λ initial e.
-    rows_fault (record { arch = arch; code = code; size = size; initial = initial }) (initial_by f no_row cie) f (record { columns = initial; remembered = []; offset = 0 }) 0 (record { row = initial_by f no_row cie; remembered = [] }) [] fde e (record { columns = e; remembered = refl; offset = refl }) refl)
+    rows_fault (record { arch = arch; code_alignment_factor = code; size = size; initial = initial }) (initial_by f no_row cie) f (record { columns = initial; remembered = []; offset = 0 }) 0 (record { row = initial_by f no_row cie; remembered = [] }) [] fde e (record { columns = e; remembered = refl; offset = refl }) refl)
 
 pub answers_fault : {X Y : Type 0} (view : X → Y) (answer : Result X MachineFault) (given : Result Y MachineFault) (fault : Option MachineFault) → Gives view answer given → fault_of given ≡ fault → FailsBy answer fault
 answers_fault view (Ok x) given fault g e = sym e ∙ ap (λ (r : _). fault_of r) g

@@ -110,7 +110,7 @@ recall_goes k place s (c ∷ rows) h all = record { fits = record { sign = all 0
 step_goes : (k : FunctionContext) (place : ℕ) (effect : Effect) (s : State) → StateFits k s → GoesOn k s (step k place effect s)
 step_goes k place (Row change) s h = change_goes k s (changed k.arch place change s.columns) h (changed_sign k.arch place change s.columns h.sign)
 step_goes k place (Advance n) s h =
-    let next : ℕ = advanced k.code n s.offset in
+    let next : ℕ = advanced k.code_alignment_factor n s.offset in
     let small : s.offset < 2 ^ 64 = h.capped in
     let le : s.offset ≤ next = omega arith in
     let capped : next < 2 ^ 64 = omega arith in
@@ -210,9 +210,9 @@ no_sign Amd64 = record { fits = refl }
 no_sign Aarch64 = record { fits = refl }
 
 rows_from-are_rows : (arch : Arch) (code : ℕ) (f : ℤ) (size : ℕ) (initial : Columns) (cie fde : List Item) → Ok initial ≡ initial_columns arch f no_columns cie
-    → AreRowsIfOk arch size (rows_from (record { arch = arch; code = code; size = size; initial = initial }) f (record { columns = initial; remembered = []; offset = 0 }) fde)
+    → AreRowsIfOk arch size (rows_from (record { arch = arch; code_alignment_factor = code; size = size; initial = initial }) f (record { columns = initial; remembered = []; offset = 0 }) fde)
 rows_from-are_rows arch code f size initial cie fde e =
-    let k : FunctionContext = record { arch = arch; code = code; size = size; initial = initial } in
+    let k : FunctionContext = record { arch = arch; code_alignment_factor = code; size = size; initial = initial } in
     let s : State = record { columns = initial; remembered = []; offset = 0 } in
     let sign : SignFits arch initial = subst (SignsFit arch) (sym e) (initial_columns_sign arch f no_columns cie (no_sign arch)) in
     whole k (rows_from k f s fde) (rows_from_rest k f s fde (record { sign = sign; remembered = All-nil (SignFits arch); capped = omega arith }))

@@ -61,11 +61,11 @@ advance_caps code delta offset n e = rw e (plain (code * delta) n)
     plain by n = omega arith
 
 pub step_agrees : (k : FunctionContext) (initial : FullRow) (place : ℕ) (effect : Effect) (s : State) (n : ℕ) (full : UnwindState) → k.initial ≡ columns_of k.arch initial → Agrees k s n full
-    → StepsAgree k s (step k place effect s) (offset_behind k.code effect n) (after_instruction initial effect full)
+    → StepsAgree k s (step k place effect s) (offset_behind k.code_alignment_factor effect n) (after_instruction initial effect full)
 step_agrees k initial place (Row change) s n full init h =
     change_steps k s n full (changed k.arch place change s.columns) (row_after change full.row) h (subst (λ (c : Columns). ChangesTo k.arch (changed k.arch place change c) (row_after change full.row)) (sym h.columns) (change_agrees k.arch place change full.row))
 step_agrees k initial place (Advance delta) s n full init h = record {
-  agrees = record { columns = h.columns; remembered = h.remembered; offset = advance_caps k.code delta s.offset n h.offset };
+  agrees = record { columns = h.columns; remembered = h.remembered; offset = advance_caps k.code_alignment_factor delta s.offset n h.offset };
   row_is = refl;
 }
 step_agrees k initial place (Restore r) s n full init h =
@@ -132,15 +132,15 @@ then_says k o s n m full behind later (Ok (t, row)) next h le inside small step 
 then_says k o s n m full behind later (Err e) next h le inside small step goes go = tt
 
 rows_say : (k : FunctionContext) (initial : FullRow) (f : ℤ) (o : ℕ) (s : State) (n : ℕ) (full : UnwindState) (items : List Item) → k.initial ≡ columns_of k.arch initial → Agrees k s n full → StateFits k s → n ≤ o → o < k.size → k.size < 2 ^ 64
-    → Says k.arch o (state_before initial k.code f o n full items).row (rows_from k f s items)
+    → Says k.arch o (state_before initial k.code_alignment_factor f o n full items).row (rows_from k f s items)
 unfolding rows_from state_before
 rows_say k initial f o s n full [] init h fits le inside small = last_says k o s n full h le inside small
 rows_say k initial f o s n full (Err e ∷ items) init h fits le inside small = tt
 rows_say k initial f o s n full (Ok (place, i) ∷ items) init h fits le inside small =
     let effect = effect_by f i in
-    let m = offset_behind k.code effect n in
+    let m = offset_behind k.code_alignment_factor effect n in
     let behind = after_instruction initial effect full in
-    then_says k o s n m full behind (state_before initial k.code f o m behind items) (step k place effect s) (λ t. rows_from k f t items) h le inside small (step_agrees k initial place effect s n full init h) (item_step_goes k f (Ok (place, i)) s fits)
+    then_says k o s n m full behind (state_before initial k.code_alignment_factor f o m behind items) (step k place effect s) (λ t. rows_from k f t items) h le inside small (step_agrees k initial place effect s n full init h) (item_step_goes k f (Ok (place, i)) s fits)
     (λ t agrees t_fits. record { rest = rows_from_rest k f t items t_fits; says = λ on. rows_say k initial f o t m behind items init agrees t_fits on inside small })
 
 -- ---- a whole function
@@ -157,9 +157,9 @@ all_say arch code f size cie fde (Ok rows) h = λ o lt. h o lt None
 all_say arch code f size cie fde (Err e) h = tt
 
 rows_from-say : (arch : Arch) (code : ℕ) (f : ℤ) (size : ℕ) (initial : Columns) (cie fde : List Item) → size < 2 ^ 64 → Ok initial ≡ initial_columns arch f no_columns cie
-    → SaysAllIfOk arch code f size cie fde (rows_from (record { arch = arch; code = code; size = size; initial = initial }) f (record { columns = initial; remembered = []; offset = 0 }) fde)
+    → SaysAllIfOk arch code f size cie fde (rows_from (record { arch = arch; code_alignment_factor = code; size = size; initial = initial }) f (record { columns = initial; remembered = []; offset = 0 }) fde)
 rows_from-say arch code f size initial cie fde small e =
-    let k : FunctionContext = record { arch = arch; code = code; size = size; initial = initial } in
+    let k : FunctionContext = record { arch = arch; code_alignment_factor = code; size = size; initial = initial } in
     let s : State = record { columns = initial; remembered = []; offset = 0 } in
     let row : FullRow = initial_by f no_row cie in
     let sign : SignFits arch initial = subst (SignsFit arch) (sym e) (initial_columns_sign arch f no_columns cie (no_sign arch)) in

@@ -84,15 +84,15 @@ starts_then k o s n m full behind reached (Ok (t, row)) next h le lt small here 
         ap (λ (r : Option DwRow). has_start o (with_ended r rows)) step.row_is ∙ start_front o s.offset t.offset n m k.size s.columns rows reached (nat_lt s.offset t.offset) (nat_lt s.offset k.size) refl refl h.offset step.agrees.offset le lt small here g
 starts_then k o s n m full behind reached (Err e) next h le lt small here step go = tt
 
-starts_are : (k : FunctionContext) (initial : FullRow) (f : ℤ) (o : ℕ) (s : State) (n : ℕ) (full : UnwindState) (items : List Item) → k.initial ≡ columns_of k.arch initial → Agrees k s n full → o < k.size → k.size < 2 ^ 64 → StartsAre o (reaches k.code f o n items) (rows_from k f s items)
+starts_are : (k : FunctionContext) (initial : FullRow) (f : ℤ) (o : ℕ) (s : State) (n : ℕ) (full : UnwindState) (items : List Item) → k.initial ≡ columns_of k.arch initial → Agrees k s n full → o < k.size → k.size < 2 ^ 64 → StartsAre o (reaches k.code_alignment_factor f o n items) (rows_from k f s items)
 unfolding rows_from reaches
 starts_are k initial f o s n full [] init h lt small = start_there o s.offset n k.size s.columns (nat_lt s.offset k.size) refl h.offset lt small
 starts_are k initial f o s n full (Err e ∷ items) init h lt small = tt
 starts_are k initial f o s n full (Ok (place, i) ∷ items) init h lt small =
     let effect = effect_by f i in
-    let m = offset_behind k.code effect n in
+    let m = offset_behind k.code_alignment_factor effect n in
     let behind = after_instruction initial effect full in
-    starts_then k o s n m full behind (reaches k.code f o m items) (step k place effect s) (λ t. rows_from k f t items) h (behind_on k.code effect n) lt small (λ e. subst (λ (x : ℕ). reaches k.code f o x items ≡ true) (sym e) (reaches_here k.code f o items)) (step_agrees k initial place effect s n full init h)
+    starts_then k o s n m full behind (reaches k.code_alignment_factor f o m items) (step k place effect s) (λ t. rows_from k f t items) h (behind_on k.code_alignment_factor effect n) lt small (λ e. subst (λ (x : ℕ). reaches k.code_alignment_factor f o x items ≡ true) (sym e) (reaches_here k.code_alignment_factor f o items)) (step_agrees k initial place effect s n full init h)
     (λ t agrees. starts_are k initial f o t m behind items init agrees lt small)
 
 -- ---- a whole function
@@ -105,7 +105,7 @@ both_start arch o reached (Err e) row next change go = tt
 
 all_start : (arch : Arch) (code : ℕ) (f : ℤ) (size : ℕ) (cie fde : List Item) (o : ℕ) → o < size → size < 2 ^ 64 → StartsAre o (reaches code f o 0 fde) (rows_by arch code f size cie fde)
 all_start arch code f size cie fde o lt small = both_start arch o _ (initial_columns arch f no_columns cie) (initial_by f no_row cie) _ (changes_none arch f cie) (λ initial e.
-    starts_are (record { arch = arch; code = code; size = size; initial = initial }) (initial_by f no_row cie) f o (record { columns = initial; remembered = []; offset = 0 }) 0 (record { row = initial_by f no_row cie; remembered = [] }) fde e (record { columns = e; remembered = refl; offset = refl }) lt small)
+    starts_are (record { arch = arch; code_alignment_factor = code; size = size; initial = initial }) (initial_by f no_row cie) f o (record { columns = initial; remembered = []; offset = 0 }) 0 (record { row = initial_by f no_row cie; remembered = [] }) fde e (record { columns = e; remembered = refl; offset = refl }) lt small)
 
 pub answers_start : (arch : Arch) (code : ℕ) (f : ℤ) (size : ℕ) (cie fde : List Item) (answer : Result (Vec DwRow Global) MachineFault) → size < 2 ^ 64 → Gives (λ (v : Vec DwRow Global). v.items) answer (rows_by arch code f size cie fde) → IfOk answer (λ v. StartWhereReached code f size fde v.items)
 answers_start arch code f size cie fde (Ok v) small g = λ o lt. subst (StartsAre o (reaches code f o 0 fde)) g (all_start arch code f size cie fde o lt small)

@@ -12,13 +12,13 @@ use Rattle.cfa_machine.specs.Columns.{row_from}
 use Rattle.cfa_machine.specs.Pass.{◌>>=◌, StartsBelow, MachineSteps, item_step, rows_from, state}
 
 -- the rows that come, or the fault that will
-abbrev pub unless_over : Bool → Result (List DwRow) MachineFault → Result (List DwRow) MachineFault
-unless_over true rows = Ok []
-unless_over false rows = rows
+abbrev pub unless_ended : Bool → Result (List DwRow) MachineFault → Result (List DwRow) MachineFault
+unless_ended true rows = Ok []
+unless_ended false rows = rows
 
 -- the rows that a runner has left, or the fault that will come
 abbrev pub rows_left : Runner → Result (List DwRow) MachineFault
-rows_left r = unless_over r.over (rows_from r.setup r.factor (state r.machine) (items_left r.insns))
+rows_left r = unless_ended r.ended (rows_from r.context r.data_alignment_factor (state r.machine) (items_left r.insns))
 
 -- how many steps are left at most
 abbrev pub steps_if : Bool → ℕ → ℕ
@@ -27,7 +27,7 @@ steps_if false n = n + 1
 
 -- how many steps a runner has left at most
 abbrev pub steps_left : Runner → ℕ
-steps_left r = steps_if r.over (length (items_left r.insns))
+steps_left r = steps_if r.ended (length (items_left r.insns))
 
 -- the columns of the row that was given last
 abbrev pub present : Runner → Columns
@@ -35,7 +35,7 @@ present r = r.machine.columns
 
 -- no row starts there or above
 abbrev pub limit : Runner → ℕ
-limit r = r.setup.size
+limit r = r.context.size
 
 -- after the row that starts there, whose columns are these
 abbrev pub behind_row : ℕ → Columns → Result (List DwRow) MachineFault → Result (List DwRow) MachineFault

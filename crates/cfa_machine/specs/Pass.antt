@@ -64,7 +64,7 @@ with_recalled place (c ∷ rows) = Ok (c, rows)
 -- one instruction at a place: the next state, and the row that ends
 abbrev pub step : FunctionContext → ℕ → Effect → State → Result (State × Option DwRow) MachineFault
 step k place (Row change) s = changed k.arch place change s.columns >>= λ c. Ok (record s { columns = c }, None)
-step k place (Advance n) s = Ok (record s { offset = advanced k.code n s.offset }, row_before k.size (advanced k.code n s.offset) s.offset s.columns)
+step k place (Advance n) s = Ok (record s { offset = advanced k.code_alignment_factor n s.offset }, row_before k.size (advanced k.code_alignment_factor n s.offset) s.offset s.columns)
 step k place (Restore r) s = Ok (record s { columns = restored k.arch r k.initial s.columns }, None)
 step k place Remember s = with_remembered place s.columns s.remembered >>= λ rows. Ok (record s { remembered = rows }, None)
 step k place Recall s = with_recalled place s.remembered >>= λ x. Ok (record s { columns = x.0; remembered = x.1 }, None)
@@ -95,7 +95,7 @@ rows_from k f s (x ∷ items) = do
 abbrev pub rows_by : Arch → (code : ℕ) → (factor : ℤ) → (size : ℕ) → (cie fde : List Item) → Result (List DwRow) MachineFault
 rows_by arch code f size cie fde = do
   initial ← initial_columns arch f no_columns cie
-  rows_from (record { arch = arch; code = code; size = size; initial = initial }) f (record { columns = initial; remembered = []; offset = 0 }) fde
+  rows_from (record { arch = arch; code_alignment_factor = code; size = size; initial = initial }) f (record { columns = initial; remembered = []; offset = 0 }) fde
 
 -- ---- what the code keeps of a state
 -- the remembered columns that the code keeps, the latest first

@@ -18,12 +18,16 @@ use sf_model::Arch;
 /// # Errors
 ///
 /// The first fault of the instructions.
-pub fn initial_row(arch: Arch, factor: i64, cie: Part<'_>) -> Result<Columns, MachineFault>
-    ensures { result ≡ initial_columns arch factor no_columns (listing (cursor cie.entry)) }
+pub fn initial_row(
+    arch: Arch,
+    data_alignment_factor: i64,
+    cie: Part<'_>,
+) -> Result<Columns, MachineFault>
+    ensures { result ≡ initial_columns arch data_alignment_factor no_columns (listing (cursor cie.entry)) }
 {
     let mut columns = empty_columns();
     for item in Insns::new(cie) {
-        define_row(arch, factor, item, &mut columns)?;
+        define_row(arch, data_alignment_factor, item, &mut columns)?;
     }
     Ok(columns)
 }

@@ -54,18 +54,25 @@ fn row_at(start: u64, columns: &Columns) -> DwRow
 fn pass(
     alloc: Global,
     arch: Arch,
-    code: u64,
-    factor: i64,
+    code_alignment_factor: u64,
+    data_alignment_factor: i64,
     cie: Part<'_>,
     fde: Part<'_>,
     size: u64,
 ) -> Result<Vec<DwRow>, MachineFault>
-    ensures { Gives (λ v. v.items) result (rows_by arch code factor size (listing (cursor cie.entry)) (listing (cursor fde.entry))) }
+    ensures { Gives (λ v. v.items) result (rows_by arch code_alignment_factor data_alignment_factor size (listing (cursor cie.entry)) (listing (cursor fde.entry))) }
 {
-    let initial = initial_row(arch, factor, cie)?;
+    let initial = initial_row(arch, data_alignment_factor, cie)?;
     let mut rows = Vec::new(alloc);
     let mut run = Runner::new();
-    run.start_from(&initial, arch, code, factor, fde, size);
+    run.start_from(
+        &initial,
+        arch,
+        code_alignment_factor,
+        data_alignment_factor,
+        fde,
+        size,
+    );
     while let Some(start) = run.next_row()? {
         rows.push(row_at(start, run.columns()))?;
     }
@@ -75,15 +82,14 @@ fn pass(
 /// Returns the rows of a function, by rising start: for each offset below `size` that is 0 or that an advance
 /// arrives at, the state from there on. For size 0 there are none.
 ///
-/// `code` and `factor` are the code and data alignment factors of the common information entry, `cie`
-/// and `fde` the instructions of both entries. Every instruction is read and run, also after the
-/// function's end, and the first one that can't be is the fault, the common information entry's before
-/// the frame description entry's.
+/// The alignment factors are those of the common information entry, `cie` and `fde` the instructions of both entries. Every
+/// instruction is read and run, also after the function's end, and the first one that can't be is the fault, the common
+/// information entry's before the frame description entry's.
 pub fn rows(
     alloc: Global,
     arch: Arch,
-    code: u64,
-    factor: i64,
+    code_alignment_factor: u64,
+    data_alignment_factor: i64,
     cie: Part<'_>,
     fde: Part<'_>,
     size: u64,
@@ -91,13 +97,21 @@ pub fn rows(
     // The rows rise from 0 on, below the size.
     ensures rows { IfOk result (λ v. AreRows arch size v.items) }
     // At each offset below the size the rows are what the instructions give there.
-    ensures at { IfOk result (λ v. SayAll arch code factor size (listing (cursor cie.entry)) (listing (cursor fde.entry)) v.items) }
+    ensures at { IfOk result (λ v. SayAll arch code_alignment_factor data_alignment_factor size (listing (cursor cie.entry)) (listing (cursor fde.entry)) v.items) }
     // A row starts at each offset below the size that is 0 or that an advance arrives at, and at no other.
-    ensures starts { IfOk result (λ v. StartWhereReached code factor size (listing (cursor fde.entry)) v.items) }
+    ensures starts { IfOk result (λ v. StartWhereReached code_alignment_factor data_alignment_factor size (listing (cursor fde.entry)) v.items) }
     // It names the first instruction that can't be read or run.
-    ensures fault { FailsBy result (first_fault arch factor (listing (cursor cie.entry)) (listing (cursor fde.entry))) }
+    ensures fault { FailsBy result (first_fault arch data_alignment_factor (listing (cursor cie.entry)) (listing (cursor fde.entry))) }
     // The same by one pass.
-    ensures exact { Gives (λ v. v.items) result (rows_by arch code factor size (listing (cursor cie.entry)) (listing (cursor fde.entry))) }
+    ensures exact { Gives (λ v. v.items) result (rows_by arch code_alignment_factor data_alignment_factor size (listing (cursor cie.entry)) (listing (cursor fde.entry))) }
 {
-    pass(alloc, arch, code, factor, cie, fde, size)
+    pass(
+        alloc,
+        arch,
+        code_alignment_factor,
+        data_alignment_factor,
+        cie,
+        fde,
+        size,
+    )
 }

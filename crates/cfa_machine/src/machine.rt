@@ -22,7 +22,7 @@ pub struct FunctionContext {
     /// The machine of the code.
     pub arch: Arch,
     /// The code alignment factor, in bytes.
-    pub code: u64,
+    pub code_alignment_factor: u64,
     /// The function's size in bytes.
     pub size: u64,
     /// The row that the common information entry gives.
@@ -63,24 +63,29 @@ fn define_at(
 #[inline(always)]
 pub fn define_row(
     arch: Arch,
-    factor: i64,
+    data_alignment_factor: i64,
     read: Result<(u64, Insn<'_>), InsnFault>,
     columns: &mut Columns,
 ) -> Result<(), MachineFault>
-    ensures { Changes columns.new result (cie_item_step arch factor (item read.entry) columns.old) }
+    ensures { Changes columns.new result (cie_item_step arch data_alignment_factor (item read.entry) columns.old) }
 {
     match read {
-        Ok((place, insn)) => define_at(arch, place, effect_of(factor, insn), columns),
+        Ok((place, insn)) => define_at(
+            arch,
+            place,
+            effect_of(data_alignment_factor, insn),
+            columns,
+        ),
         Err(fault) => Err(MachineFault::Insn(fault)),
     }
 }
 
 // Returns the offset after an advance by `delta` code alignments, or the greatest `u64` where it passes it.
 #[inline(always)]
-fn offset_after(code: u64, delta: u32, offset: u64) -> u64
-    ensures { result ≡ advanced code delta offset }
+fn offset_after(code_alignment_factor: u64, delta: u32, offset: u64) -> u64
+    ensures { result ≡ advanced code_alignment_factor delta offset }
 {
-    offset.saturating_add(code.saturating_mul(u64::from(delta)))
+    offset.saturating_add(code_alignment_factor.saturating_mul(u64::from(delta)))
 }
 
 // Returns whether a row ends where the offset goes on to `next`.
@@ -147,14 +152,14 @@ impl Machine {
     /// Advances by `delta` code alignments, and returns the start of the row that ends there, if one does: its columns are the
     /// machine's.
     #[inline(always)]
-    pub fn advance(&mut self, setup: &FunctionContext, delta: u32) -> Option<u64>
-        ensures steps { (place : ℕ) → MachineSteps self.new (Ok result) (step setup.now place (Effect.Advance delta) (state self.old)) }
-        ensures below { StartsBelow setup.now.size (Ok result) }
+    pub fn advance(&mut self, context: &FunctionContext, delta: u32) -> Option<u64>
+        ensures steps { (place : ℕ) → MachineSteps self.new (Ok result) (step context.now place (Effect.Advance delta) (state self.old)) }
+        ensures below { StartsBelow context.now.size (Ok result) }
     {
-        let next = offset_after(setup.code, delta, self.offset);
+        let next = offset_after(context.code_alignment_factor, delta, self.offset);
         let start = self.offset;
         self.offset = next;
-        if row_ends(setup.size, next, start) {
+        if row_ends(context.size, next, start) {
             Some(start)
         } else {
             None
@@ -163,17 +168,23 @@ impl Machine {
 
     /// Saves a register at the CFA plus a factored offset.
     #[inline(always)]
-    pub fn save_at(&mut self, setup: &FunctionContext, factor: i64, register: u8, factored: u8)
-        ensures { (place : ℕ) → StepsInRow self.new (Ok result) (step setup.now place (Effect.Row (RowEffect.SetRule register (Rule.Offset (pos factored *ℤ factor)))) (state self.old)) }
+    pub fn save_at(
+        &mut self,
+        context: &FunctionContext,
+        data_alignment_factor: i64,
+        register: u8,
+        factored: u8,
+    )
+        ensures { (place : ℕ) → StepsInRow self.new (Ok result) (step context.now place (Effect.Row (RowEffect.SetRule register (Rule.Offset (pos factored *ℤ data_alignment_factor)))) (state self.old)) }
     {
-        let rule = Rule::Offset(scaled(u64::from(factored), factor));
-        set_rule(setup.arch, u64::from(register), rule, &mut self.columns);
+        let rule = Rule::Offset(scaled(u64::from(factored), data_alignment_factor));
+        set_rule(context.arch, u64::from(register), rule, &mut self.columns);
     }
 
     /// Gives the CFA another offset, in bytes, by the instruction at `place`.
     #[inline(always)]
     pub fn move_cfa(&mut self, place: u64, bytes: u8) -> Result<(), MachineFault>
-        ensures { (setup : FunctionContext) → StepsInRow self.new result (step setup place (Effect.Row (RowEffect.SetCfaOffset (pos bytes))) (state self.old)) }
+        ensures { (context : FunctionContext) → StepsInRow self.new result (step context place (Effect.Row (RowEffect.SetCfaOffset (pos bytes))) (state self.old)) }
     {
         set_cfa_offset(place, i128::from(bytes), &mut self.columns)
     }
@@ -183,15 +194,15 @@ impl Machine {
     #[inline(always)]
     pub fn step(
         &mut self,
-        setup: &FunctionContext,
-        factor: i64,
+        context: &FunctionContext,
+        data_alignment_factor: i64,
         read: Result<(u64, Insn<'_>), InsnFault>,
     ) -> Result<Option<u64>, MachineFault>
-        ensures steps { MachineSteps self.new result (item_step setup.now factor (item read.entry) (state self.old)) }
-        ensures below { StartsBelow setup.now.size result }
+        ensures steps { MachineSteps self.new result (item_step context.now data_alignment_factor (item read.entry) (state self.old)) }
+        ensures below { StartsBelow context.now.size result }
     {
         match read {
-            Ok((place, insn)) => self.run(setup, place, effect_of(factor, insn)),
+            Ok((place, insn)) => self.run(context, place, effect_of(data_alignment_factor, insn)),
             Err(fault) => Err(MachineFault::Insn(fault)),
         }
     }
@@ -200,21 +211,21 @@ impl Machine {
     #[inline(always)]
     fn run(
         &mut self,
-        setup: &FunctionContext,
+        context: &FunctionContext,
         place: u64,
         effect: Effect,
     ) -> Result<Option<u64>, MachineFault>
-        ensures steps { MachineSteps self.new result (step setup.now place effect (state self.old)) }
-        ensures below { StartsBelow setup.now.size result }
+        ensures steps { MachineSteps self.new result (step context.now place effect (state self.old)) }
+        ensures below { StartsBelow context.now.size result }
     {
         match effect {
             Effect::Row(change) => {
-                change_row(setup.arch, place, change, &mut self.columns)?;
+                change_row(context.arch, place, change, &mut self.columns)?;
                 Ok(None)
             }
-            Effect::Advance(delta) => Ok(self.advance(setup, delta)),
+            Effect::Advance(delta) => Ok(self.advance(context, delta)),
             Effect::Restore(register) => {
-                restore_rule(setup.arch, register, &setup.initial, &mut self.columns);
+                restore_rule(context.arch, register, &context.initial, &mut self.columns);
                 Ok(None)
             }
             Effect::Remember => {

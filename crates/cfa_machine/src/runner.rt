@@ -20,10 +20,10 @@ use sf_model::Arch;
 #[derive(Drop)]
 pub struct Runner<'a> {
     machine: Machine,
-    setup: FunctionContext,
-    factor: i64,
+    context: FunctionContext,
+    data_alignment_factor: i64,
     insns: Insns<'a>,
-    over: bool,
+    ended: bool,
 }
 
 // Runs the next instruction, whichever it is, and returns the start of the row that ends there. It is not inlined, so that the loop
@@ -31,14 +31,14 @@ pub struct Runner<'a> {
 #[inline(never)]
 fn step_next(
     machine: &mut Machine,
-    setup: &FunctionContext,
-    factor: i64,
+    context: &FunctionContext,
+    data_alignment_factor: i64,
     left: &mut Insns<'_>,
 ) -> Option<Result<Option<u64>, MachineFault>>
-    ensures { RunsNext setup.now factor machine.old machine.new result (items_left left.old) (items_left left.new) }
+    ensures { RunsNext context.now data_alignment_factor machine.old machine.new result (items_left left.old) (items_left left.new) }
 {
     let item = left.next()?;
-    Some(machine.step(setup, factor, item))
+    Some(machine.step(context, data_alignment_factor, item))
 }
 
 // Runs instructions up to the next row, whose start it returns, or to their end. The four kinds that are nearly all of a program's
@@ -46,30 +46,30 @@ fn step_next(
 #[inline(always)]
 fn next_start(
     machine: &mut Machine,
-    setup: &FunctionContext,
-    factor: i64,
+    context: &FunctionContext,
+    data_alignment_factor: i64,
     insns: &mut Insns<'_>,
 ) -> Result<Option<u64>, MachineFault>
-    ensures reaches { Reaches machine.new.columns result (rows_from setup.now factor (state machine.old) (items_left insns.old)) (rows_from setup.now factor (state machine.new) (items_left insns.new)) (Ok (with_ended (last_row setup.now.size (state machine.new)) [])) }
+    ensures reaches { Reaches machine.new.columns result (rows_from context.now data_alignment_factor (state machine.old) (items_left insns.old)) (rows_from context.now data_alignment_factor (state machine.new) (items_left insns.new)) (Ok (with_ended (last_row context.now.size (state machine.new)) [])) }
     ensures fewer { OnRow result (λ start. length (items_left insns.new) < length (items_left insns.old)) }
-    ensures below { OnRow result (λ start. start < setup.now.size) }
+    ensures below { OnRow result (λ start. start < context.now.size) }
 {
     let mut left = *insns;
     loop {
         if let Some(delta) = left.next_advance_loc() {
-            if let Some(start) = machine.advance(setup, u32::from(delta)) {
+            if let Some(start) = machine.advance(context, u32::from(delta)) {
                 *insns = left;
                 return Ok(Some(start));
             }
         } else if let Some((place, offset)) = left.next_def_cfa_offset() {
             machine.move_cfa(place, offset)?;
         } else if let Some((register, factored)) = left.next_offset() {
-            machine.save_at(setup, factor, register, factored);
+            machine.save_at(context, data_alignment_factor, register, factored);
         } else if left.next_nop() {
             continue;
         } else {
             let mut rest = left;
-            let Some(stepped) = step_next(machine, setup, factor, &mut rest) else {
+            let Some(stepped) = step_next(machine, context, data_alignment_factor, &mut rest) else {
                 *insns = rest;
                 return Ok(None);
             };
@@ -90,42 +90,41 @@ impl<'a> Runner<'a> {
         let initial = empty_columns();
         Runner {
             machine: Machine::new(initial),
-            setup: FunctionContext {
+            context: FunctionContext {
                 arch: Arch::Amd64,
-                code: 0,
+                code_alignment_factor: 0,
                 size: 0,
                 initial,
             },
-            factor: 0,
+            data_alignment_factor: 0,
             insns: Insns::new(Part::new(&[], 0)),
-            over: true,
+            ended: true,
         }
     }
 
     /// Begins the rows of a function of `size` bytes, from the initial row that [`initial_row`](crate::initial_row) gives of
-    /// its common information entry. `code` and `factor` are that entry's code and data alignment factors, `fde` the
-    /// function's own instructions.
+    /// its common information entry. The alignment factors are that entry's, and `fde` is the function's own instructions.
     #[inline(always)]
     pub fn start_from(
         &mut self,
         initial: &Columns,
         arch: Arch,
-        code: u64,
-        factor: i64,
+        code_alignment_factor: u64,
+        data_alignment_factor: i64,
         fde: Part<'a>,
         size: u64,
     )
-        ensures begins { (cie : List Item) → IsInitial arch factor cie initial.now → rows_left self.new ≡ rows_by arch code factor size cie (listing (cursor fde.entry)) }
+        ensures begins { (cie : List Item) → IsInitial arch data_alignment_factor cie initial.now → rows_left self.new ≡ rows_by arch code_alignment_factor data_alignment_factor size cie (listing (cursor fde.entry)) }
         ensures limit { limit self.new ≡ size }
     {
         self.machine.restart(initial);
-        self.setup.arch = arch;
-        self.setup.code = code;
-        self.setup.size = size;
-        self.setup.initial = *initial;
-        self.factor = factor;
+        self.context.arch = arch;
+        self.context.code_alignment_factor = code_alignment_factor;
+        self.context.size = size;
+        self.context.initial = *initial;
+        self.data_alignment_factor = data_alignment_factor;
         self.insns = Insns::new(fde);
-        self.over = false;
+        self.ended = false;
     }
 
     /// Returns the start of the next row, or none after the last. [`columns`](Runner::columns) has its columns.
@@ -140,19 +139,19 @@ impl<'a> Runner<'a> {
         ensures below { OnRow result (λ start. start < limit self.old) }
         ensures limit { limit self.new ≡ limit self.old }
     {
-        if self.over {
+        if self.ended {
             return Ok(None);
         }
         if let Some(start) = next_start(
             &mut self.machine,
-            &self.setup,
-            self.factor,
+            &self.context,
+            self.data_alignment_factor,
             &mut self.insns,
         )? {
             return Ok(Some(start));
         }
-        self.over = true;
-        Ok(self.machine.last(self.setup.size))
+        self.ended = true;
+        Ok(self.machine.last(self.context.size))
     }
 
     /// Returns the columns of the row whose start was returned last.

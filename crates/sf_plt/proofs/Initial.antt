@@ -50,7 +50,7 @@ unfolding rows_from
 initial_said arch code factor initial row given is content =
     let rows = row_from 0 row ∷ [] in
     let by_pass : rows_by arch code factor 1 initial [] ≡ Ok rows =
-    ap (λ (x : Result Columns MachineFault). x >>= λ c. rows_from (record { arch = arch; code = code; size = 1; initial = c }) factor (record { columns = c; remembered = []; offset = 0 }) []) is in
+    ap (λ (x : Result Columns MachineFault). x >>= λ c. rows_from (record { arch = arch; code_alignment_factor = code; size = 1; initial = c }) factor (record { columns = c; remembered = []; offset = 0 }) []) is in
     let say : SayAll arch code factor 1 initial [] rows = subst (SaysAllIfOk arch code factor 1 initial []) by_pass (rows_by-say arch code factor 1 initial [] (omega arith)) in
     let fine : first_fault arch factor initial [] ≡ None = sym (rows_by-fault arch code factor 1 initial []) ∙ ap fault_of by_pass in
     let at : SaysAt arch (row_at_offset code factor initial [] 0) (Some (row_from 0 row)) = say 0 (omega arith) in

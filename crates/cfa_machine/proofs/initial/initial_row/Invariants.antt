@@ -10,5 +10,5 @@ abbrev pub invariant-loop-item : goal.invariant-loop-item
 invariant-loop-item l = record {
   can : (goal.iterator-loop-item).can_next l.item-iterator;
   ends : (goal.iterator-loop-item).is_finite l.item-iterator;
-  same : initial_columns l.arch l.factor l.columns (items_left l.item-iterator) ≡ initial_columns l.arch l.factor no_columns (listing (cursor l.fn.cie));
+  same : initial_columns l.arch l.data_alignment_factor l.columns (items_left l.item-iterator) ≡ initial_columns l.arch l.data_alignment_factor no_columns (listing (cursor l.fn.cie));
 }
