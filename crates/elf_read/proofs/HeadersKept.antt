@@ -5,7 +5,7 @@ use Rattle.elf_read.specs.declared.fault.ElfFault.TheVariants.{Short, NotElf, Cl
 use Rattle.elf_read.specs.Checking.{unless, ◌>>◌}
 use Rattle.elf_read.specs.Checks.{ElfCheck, is_string_table, identity_check, purpose_check, is_known_machine, is_known_type}
 use Rattle.elf_read.specs.Linked.{IsLinkedHead}
-use Rattle.std.proofs.lemmas.List.{length-take, drop-take}
+use Rattle.std.proofs.lemmas.List.{length-take, drop-take, drop-drop}
 use Rattle.byteorder.specs.Endian.{little_number}
 use Rattle.byteorder.specs.Numbers.{little_from-take}
 use Rattle.elf_read.specs.Number.{text_in, front_number, field_at, window}
@@ -14,7 +14,7 @@ use Rattle.elf_read.specs.declared.kind.Kind.{Kind as kind}
 use Rattle.elf_read.specs.declared.kind.Kind.TheVariants.{Rel, Exec, Dyn, Core}
 use Rattle.sf_model.specs.declared.machine.Arch.{Arch as machine}
 use Rattle.sf_model.specs.declared.machine.Arch.TheVariants.{Amd64, Aarch64}
-use Rattle.elf_read.specs.Sections.{has_bytes, section_fields, section_bytes, section_count, section_name, name_table}
+use Rattle.elf_read.specs.Sections.{section_by, section_fields, section_bytes, section_count, section_name, name_table}
 
 same_test : (w m len : ℕ) → w ≤ m → nat_lt (min m len) w ≡ nat_lt len w
 same_test w m len h = elim (cases_lt len w) [
@@ -37,11 +37,28 @@ number_kept w p n xs h =
     ∙ ap (front_number w) (drop-take p (n - p) xs)
     ∙ front_kept w (n - p) (drop p xs) (omega (arith, h))
 
--- a field of a section header, in the section headers alone
-pub field_kept : (w place i count : ℕ) (file sections : List ℕ) → sections ≡ window (header_fields file).e_shoff (64 * count) file → i < count → place + w ≤ 64
-    → field_at w (64 * i + place) sections ≡ field_at w (64 * i + place) (drop (header_fields file).e_shoff file)
-field_kept w place i count file sections is below within =
-    ap (field_at w (64 * i + place)) is ∙ number_kept w (64 * i + place) (64 * count) (drop (header_fields file).e_shoff file) (omega (arith, below, within))
+-- ---- the header of a section, in its own bytes
+same_header : (f g : ℕ → ℕ → ℕ) → ((width place : ℕ) → nat_le (place + width) 64 ≡ true → f width place ≡ g width place) → section_by f ≡ section_by g
+same_header f g same =
+    rw (same 4 0 refl, same 4 4 refl, same 8 8 refl, same 8 16 refl, same 8 24 refl, same 8 32 refl, same 4 40 refl, same 4 44 refl, same 8 48 refl, same 8 56 refl) refl
+
+-- among all bytes from the first header on
+pub header_in : (i : ℕ) (file table bytes : List ℕ) → table ≡ drop (header_fields file).e_shoff file → bytes ≡ drop (64 * i) table
+    → section_by (λ width place. field_at width place bytes) ≡ section_fields file i
+unfolding section_fields
+header_in i file table bytes is at =
+    same_header _ _ (λ width place _.
+    ap (field_at width place) at ∙ ap (front_number width) (drop-drop place (64 * i) table) ∙ ap (field_at width (64 * i + place)) is)
+
+-- among the section headers alone
+pub header_kept : (i count : ℕ) (file sections bytes : List ℕ) → sections ≡ window (header_fields file).e_shoff (64 * count) file → bytes ≡ drop (64 * i) sections → i < count
+    → section_by (λ width place. field_at width place bytes) ≡ section_fields file i
+unfolding section_fields
+header_kept i count file sections bytes is at below =
+    same_header _ _ (λ width place within.
+    let upto : place + width ≤ 64 = leb-true _ _ within in
+    ap (field_at width place) at ∙ ap (front_number width) (drop-drop place (64 * i) sections) ∙ ap (field_at width (64 * i + place)) is
+    ∙ number_kept width (64 * i + place) (64 * count) (drop (header_fields file).e_shoff file) (omega (arith, below, upto)))
 
 -- ---- the file header
 abbrev head_of : List ℕ → List ℕ
@@ -192,12 +209,3 @@ pub name_is : (file : List ℕ) (i : ℕ) → IsLinkedHead file → section_name
 unfolding section_name
 name_is file i h =
     ap (λ (b : Bool). cond b [] (text_in (section_fields file i).sh_name (section_bytes file (name_table file)))) (ap (λ (n : ℕ). n == 0) (table_is file h) ∙ h.named)
-
--- the bytes of a section that has some in the file
-pub bytes_are : (file : List ℕ) (i place size : ℕ) → has_bytes file i ≡ true → place ≡ (section_fields file i).sh_offset → size ≡ (section_fields file i).sh_size
-    → window place size file ≡ section_bytes file i
-unfolding section_bytes
-bytes_are file i place size there at many =
-    ap (λ (n : ℕ). window n size file) at
-    ∙ ap (λ (n : ℕ). window (section_fields file i).sh_offset n file) many
-    ∙ sym (ap (λ (b : Bool). cond b (window (section_fields file i).sh_offset (section_fields file i).sh_size file) []) there)

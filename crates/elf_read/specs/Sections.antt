@@ -3,6 +3,7 @@
 use Rattle.std.specs.Prelude.{ℕ, ℤ, true, false, ◌+◌, ◌-◌, ◌*◌, ◌/◌, ◌==◌, Bool, ◌&&◌, List, [], ◌∷◌, length, drop, if◌then◌else◌}
 use Rattle.byteorder.specs.Endian.{twos_complement}
 use Rattle.std.specs.Cmp.Lexicographic.{pointwise}
+use Rattle.elf_read.specs.declared.section_header.SectionHeader.{SectionHeader as Header}
 use Rattle.elf_read.specs.Number.{field_at, window, has_flag, text_in}
 use Rattle.elf_read.specs.Header.{header_fields, is_core}
 
@@ -23,22 +24,24 @@ pub record SectionHeader : Type 0 where
   pub sh_addralign : ℕ
   pub sh_entsize : ℕ
 
+-- a section header whose fields are these, each by its width and its place in the header
+abbrev pub section_by : ((width place : ℕ) → ℕ) → SectionHeader
+section_by field = record {
+  sh_name = field 4 0;
+  sh_type = field 4 4;
+  sh_flags = field 8 8;
+  sh_addr = field 8 16;
+  sh_offset = field 8 24;
+  sh_size = field 8 32;
+  sh_link = field 4 40;
+  sh_info = field 4 44;
+  sh_addralign = field 8 48;
+  sh_entsize = field 8 56;
+}
+
 -- the header of section i
 unfoldable pub section_fields : List ℕ → ℕ → SectionHeader
-section_fields file i =
-    let headers = drop (header_fields file).e_shoff file in
-    record {
-      sh_name = field_at 4 (64 * i + 0) headers;
-      sh_type = field_at 4 (64 * i + 4) headers;
-      sh_flags = field_at 8 (64 * i + 8) headers;
-      sh_addr = field_at 8 (64 * i + 16) headers;
-      sh_offset = field_at 8 (64 * i + 24) headers;
-      sh_size = field_at 8 (64 * i + 32) headers;
-      sh_link = field_at 4 (64 * i + 40) headers;
-      sh_info = field_at 4 (64 * i + 44) headers;
-      sh_addralign = field_at 8 (64 * i + 48) headers;
-      sh_entsize = field_at 8 (64 * i + 56) headers;
-    }
+section_fields file i = section_by (λ width place. field_at width (64 * i + place) (drop (header_fields file).e_shoff file))
 
 -- the number of sections: where e_shnum is 0, section 0's size; those of a core file aren't read
 unfoldable pub section_count : List ℕ → ℕ
@@ -54,9 +57,13 @@ segment_total file = if (header_fields file).e_phnum == 0xffff then (section_fie
 unfoldable pub segment_count : List ℕ → ℕ
 segment_count file = if is_core file then segment_total file else 0
 
--- whether a section has bytes in the file: SHT_NULL 0 and SHT_NOBITS 8 have none
+-- whether a section with this header has bytes in the file: SHT_NULL 0 and SHT_NOBITS 8 have none
+abbrev pub is_in_file : SectionHeader → Bool
+is_in_file header = if header.sh_type == 0 then false else (if header.sh_type == 8 then false else true)
+
+-- whether a section has bytes in the file
 unfoldable pub has_bytes : List ℕ → ℕ → Bool
-has_bytes file i = if (section_fields file i).sh_type == 0 then false else (if (section_fields file i).sh_type == 8 then false else true)
+has_bytes file i = is_in_file (section_fields file i)
 
 -- a section's bytes
 unfoldable pub section_bytes : List ℕ → ℕ → List ℕ
@@ -135,3 +142,7 @@ unfoldable pub section_total : List ℕ → ℕ
 section_total file =
     let h = header_fields file in
     if h.e_shoff == 0 then 0 else (if h.e_shnum == 0 then (section_fields file 0).sh_size else h.e_shnum)
+
+-- the fields of a section header that is lent
+abbrev pub fields_of : Header → SectionHeader
+fields_of header = section_by (λ width place. field_at width place header.bytes.now)

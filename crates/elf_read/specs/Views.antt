@@ -8,7 +8,7 @@ use Rattle.elf_read.specs.declared.entry.GroupHead.{GroupHead}
 use Rattle.elf_read.specs.declared.text.Text.{Text}
 use Rattle.elf_read.specs.Number.{field_at, window, text_in}
 use Rattle.elf_read.specs.Header.{p_offset, p_filesz}
-use Rattle.elf_read.specs.Sections.{section_fields, section_count, section_bytes, section_name, symbol_fields, member_count}
+use Rattle.elf_read.specs.Sections.{SectionHeader, section_fields, section_count, section_bytes, section_name, symbol_fields, member_count}
 use Rattle.elf_read.specs.Used.{is_group}
 
 -- the bytes of the whole file
@@ -16,18 +16,22 @@ abbrev pub file : Elf → List ℕ
 file elf = elf.bytes.now
 
 -- a section header's fields
-abbrev pub section_of : List ℕ → ℕ → Section
-section_of bytes i = record {
-  kind = (section_fields bytes i).sh_type;
-  flags = (section_fields bytes i).sh_flags;
-  addr = (section_fields bytes i).sh_addr;
-  offset = (section_fields bytes i).sh_offset;
-  size = (section_fields bytes i).sh_size;
-  link = (section_fields bytes i).sh_link;
-  info = (section_fields bytes i).sh_info;
-  align = (section_fields bytes i).sh_addralign;
-  entry = (section_fields bytes i).sh_entsize;
+abbrev pub section_view : SectionHeader → Section
+section_view header = record {
+  kind = header.sh_type;
+  flags = header.sh_flags;
+  addr = header.sh_addr;
+  offset = header.sh_offset;
+  size = header.sh_size;
+  link = header.sh_link;
+  info = header.sh_info;
+  align = header.sh_addralign;
+  entry = header.sh_entsize;
 }
+
+-- the header of a section
+abbrev pub section_of : List ℕ → ℕ → Section
+section_of bytes i = section_view (section_fields bytes i)
 
 -- a segment's bytes
 abbrev pub segment_bytes : List ℕ → ℕ → List ℕ

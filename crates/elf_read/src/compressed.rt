@@ -6,8 +6,8 @@ ghost use Rattle.elf_read.specs.Sections as fields;
 ghost use Rattle.elf_read.specs.Used as spec;
 
 use crate::fault::ElfFault;
-use crate::section_header::{header_place, sh_link};
-use crate::sections::{is_compressed, is_eh_frame};
+use crate::section_header::{SectionHeader, header_place};
+use crate::sections::is_eh_frame;
 use crate::used_checks::{is_group, is_used_rela};
 
 // Returns the lesser of two numbers, where there are some.
@@ -22,11 +22,11 @@ fn least(a: Option<u32>, b: Option<u32>) -> Option<u32>
 }
 
 // Returns this number, where it is used and names a compressed section.
-#[tactic(auto, unfolding(crate::specs::Used::if_compressed))]
+#[tactic(auto, unfolding(crate::specs::Used::if_compressed, crate::specs::Sections::is_compressed))]
 fn if_compressed(file: &[u8], used: bool, i: u32) -> Option<u32>
     ensures { result ≡ spec.if_compressed file.now used i }
 {
-    if used && is_compressed(file, i) {
+    if used && SectionHeader::of(file, i).is_compressed() {
         Some(i)
     } else {
         None
@@ -41,9 +41,9 @@ fn compressed_by(file: &[u8], i: u32) -> Option<u32>
     let group = is_group(file, i);
     let linking = is_used_rela(file, i) || group;
     let itself = if_compressed(file, is_eh_frame(file, i) || linking, i);
-    let link = sh_link(file, i);
+    let link = SectionHeader::of(file, i).link();
     let table = if_compressed(file, linking, link);
-    let strings = if_compressed(file, group, sh_link(file, link));
+    let strings = if_compressed(file, group, SectionHeader::of(file, link).link());
     least(itself, least(table, strings))
 }
 

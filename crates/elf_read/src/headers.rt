@@ -5,6 +5,7 @@ ghost use Rattle.elf_read.specs.Header.{header_fields};
 ghost use Rattle.elf_read.specs.Number.{window};
 ghost use Rattle.elf_read.specs.Sections.{section_count as count_of};
 
+use crate::section_header::SectionHeader;
 use boxcar::tag::Tag;
 
 /// The headers of an executable or a shared object that has sections with names.
@@ -25,4 +26,17 @@ pub struct Headers<'a> {
     ghost header_is: { header.now ≡ window 0 64 whole.now.numbers },
     ghost sections_are: { sections.now ≡ window (header_fields whole.now.numbers).e_shoff (64 * count) whole.now.numbers },
     ghost counted: { count ≡ count_of whole.now.numbers },
+}
+
+impl<'a> Headers<'a> {
+    ghost use Rattle.elf_read.specs.Linked.{whole_of};
+    ghost use Rattle.elf_read.specs.Sections.{section_fields, fields_of};
+
+    /// Returns the header of a section.
+    pub fn section(&self, i: u32) -> SectionHeader<'a>
+        requires { i < self.now.count }
+        ensures { fields_of result ≡ section_fields (whole_of self.now) i }
+    {
+        SectionHeader::at(self.sections, i)
+    }
 }

@@ -13,16 +13,10 @@ ghost use Rattle.sf_bytes.specs.Parts.{IsPart};
 use crate::header::{e_shentsize, e_shnum, e_shoff, e_shstrndx, is_core_file, is_object};
 use crate::headers::Headers;
 use crate::identity::{check_identity, check_purpose};
-use crate::layout::{
-    EH_FRAME, FILE_HEADER_LEN, SECTION_HEADER_LEN, SHF_ALLOC, SHF_COMPRESSED, SHN_XINDEX,
-    SHT_STRTAB,
-};
+use crate::layout::{EH_FRAME, FILE_HEADER_LEN, SECTION_HEADER_LEN, SHN_XINDEX, SHT_STRTAB};
 use crate::linked_elf::LinkedElf;
 use crate::linked_parts::{LinkedParts, bytes_if_at};
-use crate::linked_sections::{
-    has_bytes, section_bytes, sh_flags, sh_name, sh_offset, sh_size, sh_type,
-};
-use crate::number::{flag_is_set, lies};
+use crate::number::lies;
 use crate::text::{text_is, texts_end};
 use boxcar::tag::Tag;
 use sf_bytes::FilePart;
@@ -89,15 +83,13 @@ fn headers_of<'a>(
 }
 
 // Returns whether a section's bytes lie in the file.
-#[tactic(auto, unfolding(crate::specs::Checks::bytes_check))]
+#[tactic(auto, unfolding(crate::specs::Checks::bytes_check, crate::specs::Sections::has_bytes))]
 fn bytes_lie(headers: &Headers<'_>, i: u32) -> bool
     requires { i < headers.now.count }
     ensures { IsTrue result → checks.bytes_check (whole_of headers.now) i ≡ Ok tt }
 {
-    if !has_bytes(headers, i) {
-        return true;
-    }
-    lies(headers.len, sh_offset(headers, i), sh_size(headers, i), 1)
+    let header = headers.section(i);
+    !header.is_in_file() || lies(headers.len, header.offset(), header.size(), 1)
 }
 
 // Returns whether the bytes of each section lie in the file.
@@ -112,6 +104,20 @@ fn all_bytes_lie(headers: &Headers<'_>) -> bool
     true
 }
 
+// Returns a part's bytes, if these are a section's. A section without bytes in the file has no such part.
+fn section_bytes<'a>(headers: &Headers<'_>, part: &'a FilePart, i: u32) -> Option<&'a [u8]>
+    requires index { i < headers.now.count }
+    requires part { IsPart (whole_of headers.now) part.now }
+    ensures part { IfSome result (λ bytes. bytes.now ≡ part.now.bytes.items) }
+    ensures bytes { IfSome result (λ bytes. bytes.now ≡ spec.section_bytes (whole_of headers.now) i) }
+{
+    let header = headers.section(i);
+    if !header.is_in_file() {
+        return None;
+    }
+    bytes_if_at(part, header.offset(), header.size())
+}
+
 // Returns the name table's bytes, if it is a string table and the part has its bytes.
 #[tactic(auto, unfolding(crate::specs::Checks::is_string_table))]
 fn names_of<'a>(headers: &Headers<'_>, names: &'a FilePart) -> Option<&'a [u8]>
@@ -121,7 +127,7 @@ fn names_of<'a>(headers: &Headers<'_>, names: &'a FilePart) -> Option<&'a [u8]>
     ensures kind { IfSome result (λ names. checks.is_string_table (whole_of headers.now) (spec.name_table (whole_of headers.now)) ≡ true) }
 {
     let table = u32::from(e_shstrndx(headers.header));
-    if table >= headers.count || sh_type(headers, table) != SHT_STRTAB {
+    if table >= headers.count || headers.section(table).kind() != SHT_STRTAB {
         return None;
     }
     section_bytes(headers, names, table)
@@ -134,7 +140,7 @@ fn name_stands(headers: &Headers<'_>, end: u64, i: u32) -> bool
     requires end { EndsTexts (spec.section_bytes (whole_of headers.now) (spec.name_table (whole_of headers.now))) end }
     ensures { IsTrue result → checks.name_check (whole_of headers.now) i ≡ Ok tt }
 {
-    u64::from(sh_name(headers, i)) < end
+    u64::from(headers.section(i).name()) < end
 }
 
 // Returns whether the name of each section is in the name table.
@@ -151,24 +157,6 @@ fn all_names_stand(headers: &Headers<'_>, names: &[u8]) -> bool
     true
 }
 
-// Returns whether a section is loaded.
-#[tactic(auto, unfolding(crate::specs::Sections::is_allocated))]
-fn is_allocated(headers: &Headers<'_>, i: u32) -> bool
-    requires { i < headers.now.count }
-    ensures { result ≡ spec.is_allocated (whole_of headers.now) i }
-{
-    flag_is_set(sh_flags(headers, i), SHF_ALLOC)
-}
-
-// Returns whether a section's bytes are compressed.
-#[tactic(auto, unfolding(crate::specs::Sections::is_compressed))]
-fn is_compressed(headers: &Headers<'_>, i: u32) -> bool
-    requires { i < headers.now.count }
-    ensures { result ≡ spec.is_compressed (whole_of headers.now) i }
-{
-    flag_is_set(sh_flags(headers, i), SHF_COMPRESSED)
-}
-
 // Returns whether a section has this name.
 fn is_named(headers: &Headers<'_>, names: &[u8], i: u32, name: &[u8]) -> bool
     requires index { i < headers.now.count }
@@ -177,18 +165,18 @@ fn is_named(headers: &Headers<'_>, names: &[u8], i: u32, name: &[u8]) -> bool
     requires short { length name.now < 2 ^ 32 }
     ensures { result ≡ pointwise (λ (a b : ℕ). a == b) (spec.section_name (whole_of headers.now) i) name.now }
 {
-    text_is(names, u64::from(sh_name(headers, i)), name)
+    text_is(names, u64::from(headers.section(i).name()), name)
 }
 
 // Returns whether a section holds call frame information that is loaded.
-#[tactic(auto, unfolding(crate::specs::Sections::is_eh_frame))]
+#[tactic(auto, unfolding(crate::specs::Sections::is_eh_frame, crate::specs::Sections::is_allocated))]
 fn is_eh_frame(headers: &Headers<'_>, names: &[u8], i: u32) -> bool
     requires index { i < headers.now.count }
     requires names { names.now ≡ spec.section_bytes (whole_of headers.now) (spec.name_table (whole_of headers.now)) }
     requires head { IsLinkedHead (whole_of headers.now) }
     ensures { result ≡ spec.is_eh_frame (whole_of headers.now) i }
 {
-    is_allocated(headers, i) && is_named(headers, names, i, EH_FRAME)
+    headers.section(i).is_allocated() && is_named(headers, names, i, EH_FRAME)
 }
 
 // Returns the first section with call frame information.
@@ -259,7 +247,7 @@ fn found_by_parts(len: u64, whole: &Tag, parts: &LinkedParts) -> Option<Found>
         return None;
     }
     let eh_frame = only_eh_frame(&headers, names)?;
-    if is_compressed(&headers, eh_frame) {
+    if headers.section(eh_frame).is_compressed() {
         return None;
     }
     let _ = section_bytes(&headers, &parts.eh_frame, eh_frame)?;

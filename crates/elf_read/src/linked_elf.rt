@@ -10,9 +10,6 @@ use crate::entry::Section;
 use crate::header;
 use crate::headers::Headers;
 use crate::kind::Kind;
-use crate::layout::SHF_INFO_LINK;
-use crate::linked_sections::{section_at, sh_flags};
-use crate::number::flag_is_set;
 use boxcar::tag::Tag;
 use sf_model::Arch;
 
@@ -99,7 +96,7 @@ impl LinkedElf {
         requires { i < spec.section_count (linked_file self.now) }
         ensures { result ≡ section_of (linked_file self.now) i }
     {
-        section_at(&self.headers(), i)
+        self.headers().section(i).section()
     }
 
     /// Returns whether a section's flags say that its info is the number of a section: it has the flag SHF_INFO_LINK.
@@ -108,7 +105,7 @@ impl LinkedElf {
         requires { i < spec.section_count (linked_file self.now) }
         ensures { result ≡ spec.has_info_link (linked_file self.now) i }
     {
-        flag_is_set(sh_flags(&self.headers(), i), SHF_INFO_LINK)
+        self.headers().section(i).has_info_link()
     }
 
     /// Returns whether a section holds call frame information: it is loaded and has the name `.eh_frame`.

@@ -12,21 +12,22 @@ use crate::fault::ElfFault;
 use crate::header::e_shoff;
 use crate::layout::{E_SHOFF, E_SHSTRNDX, SHT_STRTAB};
 use crate::number::lies;
-use crate::section_header::{header_place, sh_name, sh_offset, sh_size, sh_type};
-use crate::sections::{has_bytes, name_table, section_bytes, section_count};
+use crate::section_header::{SectionHeader, header_place};
+use crate::sections::{name_table, section_bytes, section_count};
 use crate::text::texts_end;
 
 // Checks that a section's bytes lie in the file.
-#[tactic(auto, unfolding(crate::specs::Checks::bytes_check))]
+#[tactic(auto, unfolding(crate::specs::Checks::bytes_check, crate::specs::Sections::has_bytes))]
 fn check_bytes(file: &[u8], i: u32) -> Result<(), ElfFault>
     requires { (header_fields file.now).e_shoff < 2 ^ 32 }
     ensures { result ≡ spec.bytes_check file.now i }
 {
-    if !has_bytes(file, i) {
+    let header = SectionHeader::of(file, i);
+    if !header.is_in_file() {
         return Ok(());
     }
     require(
-        lies(file.len() as u64, sh_offset(file, i), sh_size(file, i), 1),
+        lies(file.len() as u64, header.offset(), header.size(), 1),
         ElfFault::OutOfFile(header_place(file, i)),
     )
 }
@@ -62,7 +63,7 @@ pub fn check_sections(file: &[u8]) -> Result<(), ElfFault>
 pub fn is_string_table(file: &[u8], i: u32) -> bool
     ensures { result ≡ spec.is_string_table file.now i }
 {
-    u64::from(i) < section_count(file) && sh_type(file, i) == SHT_STRTAB
+    u64::from(i) < section_count(file) && SectionHeader::of(file, i).kind() == SHT_STRTAB
 }
 
 // Checks that a section's name is in the name table, whose texts end there.
@@ -73,7 +74,7 @@ fn check_name(file: &[u8], end: u64, i: u32) -> Result<(), ElfFault>
     ensures { result ≡ spec.name_check file.now i }
 {
     require(
-        u64::from(sh_name(file, i)) < end,
+        u64::from(SectionHeader::of(file, i).name()) < end,
         ElfFault::Strings(header_place(file, i)),
     )
 }

@@ -7,33 +7,13 @@ ghost use Rattle.elf_read.specs.Sections as fields;
 ghost use Rattle.elf_read.specs.Views as spec;
 
 use crate::entries::{member_count, rela_symbol, st_name, st_shndx, st_value};
-use crate::entry::{GroupHead, Rela, Section, Symbol};
+use crate::entry::{GroupHead, Rela, Symbol};
 use crate::layout::{ENTRY_LEN, R_ADDEND, R_TYPE, SHN_LORESERVE};
 use crate::number::{bytes_from, u32_at, u64_at};
-use crate::section_header::{
-    sh_addr, sh_addralign, sh_entsize, sh_flags, sh_info, sh_link, sh_name, sh_offset, sh_size,
-    sh_type,
-};
+use crate::section_header::SectionHeader;
 use crate::sections::{name_table, section_bytes, section_count};
 use crate::text::Text;
 use crate::used_checks::is_group;
-
-/// Returns the header of a section.
-pub fn section_at(file: &[u8], i: u32) -> Section
-    ensures { result ≡ spec.section_of file.now i }
-{
-    Section {
-        kind: sh_type(file, i),
-        flags: sh_flags(file, i),
-        addr: sh_addr(file, i),
-        offset: sh_offset(file, i),
-        size: sh_size(file, i),
-        link: sh_link(file, i),
-        info: sh_info(file, i),
-        align: sh_addralign(file, i),
-        entry: sh_entsize(file, i),
-    }
-}
 
 /// Returns a symbol of a table.
 pub fn symbol_at(file: &[u8], table: u32, k: u32) -> Symbol
@@ -70,9 +50,11 @@ fn text_in_table(file: &[u8], table: u32, place: u32) -> Text<'_>
     ensures text { spec.text_bytes result ≡ text_in place (fields.section_bytes file.now table) }
     ensures place { LiesAt result.place result.rest.now file.now }
 {
+    let header = SectionHeader::of(file, table);
+    let place = u64::from(place);
     Text {
-        place: sh_offset(file, table).saturating_add(u64::from(place)),
-        rest: bytes_from(section_bytes(file, table), u64::from(place)),
+        place: header.offset().saturating_add(place),
+        rest: bytes_from(section_bytes(file, table), place),
     }
 }
 
@@ -83,7 +65,8 @@ fn symbol_name(file: &[u8], table: u32, k: u32) -> Text<'_>
     ensures text { spec.text_bytes result ≡ spec.symbol_name file.now table k }
     ensures place { LiesAt result.place result.rest.now file.now }
 {
-    text_in_table(file, sh_link(file, table), st_name(file, table, k))
+    let strings = SectionHeader::of(file, table).link();
+    text_in_table(file, strings, st_name(file, table, k))
 }
 
 // Returns the name of a section.
@@ -100,7 +83,7 @@ fn section_text(file: &[u8], i: u32) -> Text<'_>
             rest: &[],
         };
     }
-    text_in_table(file, table, sh_name(file, i))
+    text_in_table(file, table, SectionHeader::of(file, i).name())
 }
 
 // Returns whether an index is the number of a section.
@@ -144,9 +127,10 @@ pub fn group_at(file: &[u8], i: u32) -> Option<GroupHead<'_>>
     if !is_group(file, i) {
         return None;
     }
+    let header = SectionHeader::of(file, i);
     Some(GroupHead {
         comdat: is_comdat(file, i),
-        signature: symbol_text(file, sh_link(file, i), sh_info(file, i)),
+        signature: symbol_text(file, header.link(), header.info()),
         count: member_count(file, i) as u32,
     })
 }

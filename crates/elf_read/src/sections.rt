@@ -6,11 +6,9 @@ ghost use Rattle.std.specs.Cmp.Lexicographic.{pointwise};
 ghost use Rattle.elf_read.specs.Sections as spec;
 
 use crate::header::{e_phnum, e_shnum, e_shoff, e_shstrndx, is_core_file};
-use crate::layout::{
-    EH_FRAME, PN_XNUM, SHF_ALLOC, SHF_COMPRESSED, SHF_INFO_LINK, SHN_XINDEX, SHT_NOBITS, SHT_NULL,
-};
-use crate::number::{bytes_at, flag_is_set};
-use crate::section_header::{sh_flags, sh_info, sh_link, sh_name, sh_offset, sh_size, sh_type};
+use crate::layout::{EH_FRAME, PN_XNUM, SHN_XINDEX};
+use crate::number::bytes_at;
+use crate::section_header::SectionHeader;
 use crate::text::{text_at, text_is};
 
 // Returns how many section headers the file has.
@@ -22,7 +20,7 @@ fn section_total(file: &[u8]) -> u64
         return 0;
     }
     match e_shnum(file) {
-        0 => sh_size(file, 0),
+        0 => SectionHeader::of(file, 0).size(),
         count => u64::from(count),
     }
 }
@@ -45,7 +43,7 @@ pub fn segment_total(file: &[u8]) -> u32
     ensures { result ≡ spec.segment_total file.now }
 {
     match e_phnum(file) {
-        PN_XNUM => sh_info(file, 0),
+        PN_XNUM => SectionHeader::of(file, 0).info(),
         count => u32::from(count),
     }
 }
@@ -62,23 +60,16 @@ pub fn segment_count(file: &[u8]) -> u32
     }
 }
 
-/// Returns whether a section has bytes in the file.
-#[tactic(auto, unfolding(crate::specs::Sections::has_bytes))]
-pub fn has_bytes(file: &[u8], i: u32) -> bool
-    ensures { result ≡ spec.has_bytes file.now i }
-{
-    !matches!(sh_type(file, i), SHT_NULL | SHT_NOBITS)
-}
-
 /// Returns a section's bytes.
-#[tactic(auto, unfolding(crate::specs::Sections::section_bytes))]
+#[tactic(auto, unfolding(crate::specs::Sections::section_bytes, crate::specs::Sections::has_bytes))]
 pub fn section_bytes(file: &[u8], i: u32) -> &[u8]
     ensures bytes { result.now ≡ spec.section_bytes file.now i }
     ensures within { 0 < length result.now → (spec.section_fields file.now i).sh_offset < length file.now }
     ensures small { length result.now ≤ length file.now }
 {
-    if has_bytes(file, i) {
-        bytes_at(file, sh_offset(file, i), sh_size(file, i))
+    let header = SectionHeader::of(file, i);
+    if header.is_in_file() {
+        bytes_at(file, header.offset(), header.size())
     } else {
         &[]
     }
@@ -90,7 +81,7 @@ pub fn name_table(file: &[u8]) -> u32
     ensures { result ≡ spec.name_table file.now }
 {
     match e_shstrndx(file) {
-        SHN_XINDEX => sh_link(file, 0),
+        SHN_XINDEX => SectionHeader::of(file, 0).link(),
         number => u32::from(number),
     }
 }
@@ -104,31 +95,8 @@ pub fn section_name(file: &[u8], i: u32) -> &[u8]
     if table == 0 {
         return &[];
     }
-    text_at(section_bytes(file, table), u64::from(sh_name(file, i)))
-}
-
-/// Returns whether a section is loaded.
-#[tactic(auto, unfolding(crate::specs::Sections::is_allocated))]
-pub fn is_allocated(file: &[u8], i: u32) -> bool
-    ensures { result ≡ spec.is_allocated file.now i }
-{
-    flag_is_set(sh_flags(file, i), SHF_ALLOC)
-}
-
-/// Returns whether a section's flags say that its info is the number of a section.
-#[tactic(auto, unfolding(crate::specs::Sections::has_info_link))]
-pub fn has_info_link(file: &[u8], i: u32) -> bool
-    ensures { result ≡ spec.has_info_link file.now i }
-{
-    flag_is_set(sh_flags(file, i), SHF_INFO_LINK)
-}
-
-/// Returns whether a section's bytes are compressed.
-#[tactic(auto, unfolding(crate::specs::Sections::is_compressed))]
-pub fn is_compressed(file: &[u8], i: u32) -> bool
-    ensures { result ≡ spec.is_compressed file.now i }
-{
-    flag_is_set(sh_flags(file, i), SHF_COMPRESSED)
+    let name = SectionHeader::of(file, i).name();
+    text_at(section_bytes(file, table), u64::from(name))
 }
 
 /// Returns whether a section has this name.
@@ -141,17 +109,14 @@ pub fn is_named(file: &[u8], i: u32, name: &[u8]) -> bool
     if table == 0 {
         return name.is_empty();
     }
-    text_is(
-        section_bytes(file, table),
-        u64::from(sh_name(file, i)),
-        name,
-    )
+    let place = SectionHeader::of(file, i).name();
+    text_is(section_bytes(file, table), u64::from(place), name)
 }
 
 /// Returns whether a section holds call frame information that is loaded.
-#[tactic(auto, unfolding(crate::specs::Sections::is_eh_frame))]
+#[tactic(auto, unfolding(crate::specs::Sections::is_eh_frame, crate::specs::Sections::is_allocated))]
 pub fn is_eh_frame(file: &[u8], i: u32) -> bool
     ensures { result ≡ spec.is_eh_frame file.now i }
 {
-    is_allocated(file, i) && is_named(file, i, EH_FRAME)
+    SectionHeader::of(file, i).is_allocated() && is_named(file, i, EH_FRAME)
 }

@@ -12,7 +12,7 @@ use crate::fault::ElfFault;
 use crate::header::{e_phentsize, e_phoff};
 use crate::layout::{E_PHENTSIZE, E_PHOFF, PROGRAM_HEADER_LEN};
 use crate::number::lies;
-use crate::program_header::{header_place, p_filesz, p_offset};
+use crate::program_header::{ProgramHeader, header_place};
 use crate::sections::segment_total;
 
 // Checks that a segment's bytes lie in the file.
@@ -21,8 +21,9 @@ fn check_segment(file: &[u8], i: u32) -> Result<(), ElfFault>
     requires { (header_fields file.now).e_phoff < 2 ^ 32 }
     ensures { result ≡ spec.segment_check file.now i }
 {
+    let header = ProgramHeader::of(file, i);
     require(
-        lies(file.len() as u64, p_offset(file, i), p_filesz(file, i), 1),
+        lies(file.len() as u64, header.offset(), header.file_size(), 1),
         ElfFault::OutOfFile(header_place(file, i)),
     )
 }

@@ -16,9 +16,7 @@ use crate::header::is_object;
 use crate::layout::{ENTRY_LEN, GROUP_WORD_LEN, SHT_GROUP, SHT_RELA, SHT_SYMTAB};
 use crate::masks::MASKS;
 use crate::names::is_string_table;
-use crate::section_header::{
-    header_place, sh_entsize, sh_info, sh_link, sh_offset, sh_size, sh_type,
-};
+use crate::section_header::{SectionHeader, header_place};
 use crate::sections::{is_eh_frame, section_count};
 use crate::zero_index::Zeros;
 
@@ -35,7 +33,8 @@ fn names_eh_frame(file: &[u8], i: u32) -> bool
 pub fn is_used_rela(file: &[u8], i: u32) -> bool
     ensures { result ≡ spec.is_used_rela file.now i }
 {
-    is_object(file) && sh_type(file, i) == SHT_RELA && names_eh_frame(file, sh_info(file, i))
+    let header = SectionHeader::of(file, i);
+    is_object(file) && header.kind() == SHT_RELA && names_eh_frame(file, header.info())
 }
 
 /// Returns whether a section is a group.
@@ -43,7 +42,7 @@ pub fn is_used_rela(file: &[u8], i: u32) -> bool
 pub fn is_group(file: &[u8], i: u32) -> bool
     ensures { result ≡ spec.is_group file.now i }
 {
-    is_object(file) && sh_type(file, i) == SHT_GROUP
+    is_object(file) && SectionHeader::of(file, i).kind() == SHT_GROUP
 }
 
 // Returns whether a number is that of a symbol table.
@@ -51,7 +50,7 @@ pub fn is_group(file: &[u8], i: u32) -> bool
 fn is_symbol_table(file: &[u8], i: u32) -> bool
     ensures { result ≡ spec.is_symbol_table file.now i }
 {
-    u64::from(i) < section_count(file) && sh_type(file, i) == SHT_SYMTAB
+    u64::from(i) < section_count(file) && SectionHeader::of(file, i).kind() == SHT_SYMTAB
 }
 
 // Returns whether a section is a table of symbols or relocations.
@@ -59,7 +58,8 @@ fn is_symbol_table(file: &[u8], i: u32) -> bool
 fn is_entry_table(file: &[u8], i: u32) -> bool
     ensures { result ≡ spec.is_entry_table file.now i }
 {
-    sh_entsize(file, i) == ENTRY_LEN && sh_size(file, i) % ENTRY_LEN == 0
+    let header = SectionHeader::of(file, i);
+    header.entry() == ENTRY_LEN && header.size() % ENTRY_LEN == 0
 }
 
 // Checks a relocation section's symbol table, its own entries, and that table's.
@@ -68,10 +68,10 @@ fn check_rela_tables(file: &[u8], i: u32) -> Result<(), ElfFault>
     requires { (header_fields file.now).e_shoff < 2 ^ 32 }
     ensures { result ≡ spec.rela_tables file.now i }
 {
-    let header = header_place(file, i);
-    let link = sh_link(file, i);
-    require(is_symbol_table(file, link), ElfFault::SymbolIndex(header))?;
-    require(is_entry_table(file, i), ElfFault::EntrySize(header))?;
+    let place = header_place(file, i);
+    let link = SectionHeader::of(file, i).link();
+    require(is_symbol_table(file, link), ElfFault::SymbolIndex(place))?;
+    require(is_entry_table(file, i), ElfFault::EntrySize(place))?;
     require(
         is_entry_table(file, link),
         ElfFault::EntrySize(header_place(file, link)),
@@ -108,9 +108,10 @@ fn has_signature(file: &[u8], zeros: &Zeros<'_>, i: u32) -> bool
     requires zeros { AreZeros file.now zeros.now }
     ensures { result ≡ spec.has_signature file.now i }
 {
-    let table = sh_link(file, i);
-    let strings = sh_link(file, table);
-    let name = st_name(file, table, sh_info(file, i));
+    let header = SectionHeader::of(file, i);
+    let table = header.link();
+    let strings = SectionHeader::of(file, table).link();
+    let name = st_name(file, table, header.info());
     is_string_table(file, strings) && zeros.text_stands(file, strings, u64::from(name))
 }
 
@@ -119,7 +120,7 @@ fn has_signature(file: &[u8], zeros: &Zeros<'_>, i: u32) -> bool
 fn is_word_table(file: &[u8], i: u32) -> bool
     ensures { result ≡ spec.is_word_table file.now i }
 {
-    let size = sh_size(file, i);
+    let size = SectionHeader::of(file, i).size();
     size % GROUP_WORD_LEN == 0 && size != 0
 }
 
@@ -131,19 +132,20 @@ fn check_group_tables(file: &[u8], zeros: &Zeros<'_>, i: u32) -> Result<(), ElfF
     requires zeros { AreZeros file.now zeros.now }
     ensures { result ≡ spec.group_tables file.now i }
 {
-    let header = header_place(file, i);
-    let link = sh_link(file, i);
-    require(is_word_table(file, i), ElfFault::EntrySize(header))?;
-    require(is_symbol_table(file, link), ElfFault::SymbolIndex(header))?;
+    let place = header_place(file, i);
+    let header = SectionHeader::of(file, i);
+    let link = header.link();
+    require(is_word_table(file, i), ElfFault::EntrySize(place))?;
+    require(is_symbol_table(file, link), ElfFault::SymbolIndex(place))?;
     require(
         is_entry_table(file, link),
         ElfFault::EntrySize(header_place(file, link)),
     )?;
     require(
-        is_symbol(file, link, sh_info(file, i)),
-        ElfFault::SymbolIndex(header),
+        is_symbol(file, link, header.info()),
+        ElfFault::SymbolIndex(place),
     )?;
-    require(has_signature(file, zeros, i), ElfFault::Strings(header))
+    require(has_signature(file, zeros, i), ElfFault::Strings(place))
 }
 
 // Checks that a member is the number of a section.
@@ -152,7 +154,8 @@ fn check_member(file: &[u8], i: u32, k: u32) -> Result<(), ElfFault>
     requires { (fields.section_fields file.now i).sh_offset < 2 ^ 32 }
     ensures { result ≡ spec.member_check file.now i k }
 {
-    let place = sh_offset(file, i) + (GROUP_WORD_LEN * u64::from(k) + GROUP_WORD_LEN);
+    let header = SectionHeader::of(file, i);
+    let place = header.offset() + (GROUP_WORD_LEN * u64::from(k) + GROUP_WORD_LEN);
     require(
         u64::from(group_member(file, i, k)) < section_count(file),
         ElfFault::SymbolIndex(place),
@@ -205,9 +208,10 @@ fn check_entry(file: &[u8], i: u32, k: u32) -> Result<(), ElfFault>
     requires { (fields.section_fields file.now i).sh_offset < 2 ^ 32 }
     ensures { result ≡ spec.entry_check file.now i k }
 {
-    let place = sh_offset(file, i) + ENTRY_LEN * u64::from(k);
+    let header = SectionHeader::of(file, i);
+    let place = header.offset() + ENTRY_LEN * u64::from(k);
     require(
-        is_sound_symbol(file, sh_link(file, i), rela_symbol(file, i, k)),
+        is_sound_symbol(file, header.link(), rela_symbol(file, i, k)),
         ElfFault::SymbolIndex(place),
     )
 }

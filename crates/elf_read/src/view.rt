@@ -10,8 +10,10 @@ use crate::fault::ElfFault;
 use crate::kind::Kind;
 use crate::number::bytes_at;
 use crate::parsing::check_file;
+use crate::program_header::ProgramHeader;
+use crate::section_header::{SectionHeader, header_place};
 use crate::segments::check_program_headers;
-use crate::{entries, header, program_header, reading, section_header, sections, segment_fields};
+use crate::{entries, header, reading, sections};
 use sf_model::Arch;
 
 /// An ELF file that was checked. It lends the file's bytes. There are fewer than 2^32.
@@ -81,7 +83,7 @@ impl<'a> Elf<'a> {
     pub fn section(&self, i: u32) -> Section
         ensures { result ≡ section_of (file self.now) i }
     {
-        reading::section_at(self.bytes, i)
+        SectionHeader::of(self.bytes, i).section()
     }
 
     /// Returns the name of a section, empty where the file has no names.
@@ -100,24 +102,27 @@ impl<'a> Elf<'a> {
     }
 
     /// Returns whether a section is loaded: it has the flag SHF_ALLOC.
+    #[tactic(auto, unfolding(crate::specs::Sections::is_allocated))]
     pub fn is_allocated(&self, i: u32) -> bool
         ensures { result ≡ fields.is_allocated (file self.now) i }
     {
-        sections::is_allocated(self.bytes, i)
+        SectionHeader::of(self.bytes, i).is_allocated()
     }
 
     /// Returns whether a section's flags say that its info is the number of a section: it has the flag SHF_INFO_LINK.
+    #[tactic(auto, unfolding(crate::specs::Sections::has_info_link))]
     pub fn has_info_link(&self, i: u32) -> bool
         ensures { result ≡ fields.has_info_link (file self.now) i }
     {
-        sections::has_info_link(self.bytes, i)
+        SectionHeader::of(self.bytes, i).has_info_link()
     }
 
     /// Returns whether a section's bytes are compressed: it has the flag SHF_COMPRESSED.
+    #[tactic(auto, unfolding(crate::specs::Sections::is_compressed))]
     pub fn is_compressed(&self, i: u32) -> bool
         ensures { result ≡ fields.is_compressed (file self.now) i }
     {
-        sections::is_compressed(self.bytes, i)
+        SectionHeader::of(self.bytes, i).is_compressed()
     }
 
     /// Returns the place of a section's header in the file.
@@ -125,7 +130,7 @@ impl<'a> Elf<'a> {
         requires { i < fields.section_count (file self.now) }
         ensures { result ≡ fields.section_header (file self.now) i }
     {
-        section_header::header_place(self.bytes, i)
+        header_place(self.bytes, i)
     }
 
     /// Returns whether a section holds call frame information: it is loaded and has the name `.eh_frame`.
@@ -159,13 +164,13 @@ impl<'a> Elf<'a> {
         ensures place { result.place ≡ head.p_offset (file self.now) i }
         ensures bytes { result.bytes.now ≡ segment_bytes (file self.now) i }
     {
-        let place = program_header::p_offset(self.bytes, i);
-        let size = program_header::p_filesz(self.bytes, i);
+        let header = ProgramHeader::of(self.bytes, i);
+        let place = header.offset();
         Segment {
-            kind: program_header::p_type(self.bytes, i),
-            vaddr: program_header::p_vaddr(self.bytes, i),
+            kind: header.kind(),
+            vaddr: header.vaddr(),
             place,
-            bytes: bytes_at(self.bytes, place, size),
+            bytes: bytes_at(self.bytes, place, header.file_size()),
         }
     }
 
@@ -173,21 +178,21 @@ impl<'a> Elf<'a> {
     pub fn is_executable(&self, i: u32) -> bool
         ensures { result ≡ segment_spec.is_executable (file self.now) i }
     {
-        segment_fields::is_executable(self.bytes, i)
+        ProgramHeader::of(self.bytes, i).is_executable()
     }
 
     /// Returns how many bytes a segment has in the file by its header.
     pub fn file_size(&self, i: u32) -> u64
         ensures { result ≡ head.p_filesz (file self.now) i }
     {
-        program_header::p_filesz(self.bytes, i)
+        ProgramHeader::of(self.bytes, i).file_size()
     }
 
     /// Returns how many bytes a segment has in memory.
     pub fn memory_size(&self, i: u32) -> u64
         ensures { result ≡ segment_spec.p_memsz (file self.now) i }
     {
-        segment_fields::p_memsz(self.bytes, i)
+        ProgramHeader::of(self.bytes, i).memory_size()
     }
 
     /// Returns entry `k` of the relocation section `i`.

@@ -8,7 +8,7 @@ use crate::first_zero::bytes_before_zero;
 use crate::layout::SHT_STRTAB;
 use crate::masks::{MASKS, PIECES, next_piece, write_masks};
 use crate::number::{bytes_at, bytes_from};
-use crate::section_header::{sh_offset, sh_type};
+use crate::section_header::SectionHeader;
 use crate::sections::section_bytes;
 
 /// The pieces of a file that have a zero byte, as far as they are known.
@@ -32,7 +32,8 @@ fn zero_from(file: &[u8], place: u64) -> u64
 // Returns whether one of the first `count` sections is a string table that doesn't end with a zero byte.
 fn has_open_table(file: &[u8], count: u32) -> bool {
     for i in 0..count {
-        if sh_type(file, i) == SHT_STRTAB && !matches!(section_bytes(file, i), [.., 0]) {
+        let kind = SectionHeader::of(file, i).kind();
+        if kind == SHT_STRTAB && !matches!(section_bytes(file, i), [.., 0]) {
             return true;
         }
     }
@@ -110,8 +111,7 @@ impl<'a> Zeros<'a> {
         if bytes[bytes.len() - 1] == 0 {
             return true;
         }
-        let first = sh_offset(file, table) + place;
-        let end = sh_offset(file, table) + bytes.len() as u64;
-        self.first_from(file, first) < end
+        let start = SectionHeader::of(file, table).offset();
+        self.first_from(file, start + place) < start + bytes.len() as u64
     }
 }

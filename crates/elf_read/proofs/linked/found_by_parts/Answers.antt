@@ -2,10 +2,12 @@ use Rattle.std.proofs.Common.{◌≡◌, ◌-◌, ◌*◌, min, length, drop, ru
 use Rattle.std.proofs.lemmas.List.{length-drop, length-take}
 use Rattle.elf_read.specs.Header.{header_fields}
 use Rattle.elf_read.specs.Linked.{whole_of, IsOnlyEhFrame, HasLinkedParts}
+use Rattle.elf_read.specs.Sections.{is_compressed}
 use Rattle.elf_read.proofs.LinkedSound.{PassesByParts, file_passes}
 use Rattle.elf_read.proofs.linked.found_by_parts.Goals as goal
 
 pub returns : goal.returns
+unfolding is_compressed
 returns c =
     let headers = c.in_ok-headers.headers in
     let only : IsOnlyEhFrame (whole_of c.in_ok-headers.headers) c.in_ok-eh_frame.eh_frame = c.in_ok-eh_frame.ensures in

@@ -1,4 +1,4 @@
-use Rattle.std.proofs.Common.{◌≡◌, ◌+◌, ◌-◌, ℕ, List, length, sym, ap, ◌∙◌, arith, eq-eqb}
+use Rattle.std.proofs.Common.{◌≡◌, ◌+◌, ◌-◌, ℕ, List, length, sym, ap, ◌∙◌, arith, eq-eqb, rules}
 use Rattle.elf_read.specs.Number.{has_text}
 use Rattle.elf_read.specs.Sections.{section_bytes, section_fields}
 use Rattle.elf_read.proofs.FirstZero.{zero_within}
@@ -20,7 +20,7 @@ pub returns : goal.returns
 returns c =
     let file = c.args.file.now in
     let len : length c.section_bytes-bytes.result.now ≡ length (section_bytes file c.args.table) = ap (λ (xs : List ℕ). length xs) c.section_bytes-bytes.ensures.bytes in
-    let offset : c.sh_offset.result ≡ (section_fields file c.args.table).sh_offset = c.sh_offset.ensures in
-    let again : c.sh_offset-2.result ≡ (section_fields file c.args.table).sh_offset = c.sh_offset-2.ensures in
-    zero_within file c.args.table c.args.place (c.sh_offset.result + c.args.place) (c.sh_offset-2.result + length c.section_bytes-bytes.result.now) c.first_from.result
-    (omega (arith, len, c.if-place-bytes.false)) (omega (arith, offset)) (omega (arith, again, len)) c.first_from.ensures
+    let start = c.offset-start.result in
+    let offset : start ≡ (section_fields file c.args.table).sh_offset = search rules in
+    zero_within file c.args.table c.args.place (start + c.args.place) (start + length c.section_bytes-bytes.result.now) c.first_from.result
+    (omega (arith, len, c.if-place-bytes.false)) (omega (arith, offset)) (omega (arith, offset, len)) c.first_from.ensures
