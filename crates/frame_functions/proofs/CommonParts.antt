@@ -13,12 +13,12 @@ use Rattle.eh_records.specs.Named.{standing_cie}
 use Rattle.frame_functions.specs.declared.numbers.CommonNumbers.{CommonNumbers}
 use Rattle.frame_functions.specs.declared.read.ReadFunctions.{ReadFunctions}
 use Rattle.frame_functions.specs.declared.read.ReadFunctions.TheVariants.{Within, Past}
-use Rattle.frame_functions.specs.declared.source.CommonPart.{CommonPart}
-use Rattle.frame_functions.specs.declared.source.SourceItem.{SourceItem}
+use Rattle.frame_functions.specs.declared.description.CommonPart.{CommonPart}
+use Rattle.frame_functions.specs.declared.description.DescriptionItem.{DescriptionItem}
 use Rattle.frame_functions.specs.Functions.{Function}
 use Rattle.frame_functions.specs.Numbers.{AreNumbered, IsNumberOf}
 use Rattle.frame_functions.specs.ReadSoFar.{AreNumberedIn}
-use Rattle.frame_functions.specs.Sources.{Common, IsItemIn, CanBeRun, common_of, common_view, commons_of, function_by_item, item_function, no_common}
+use Rattle.frame_functions.specs.Descriptions.{Common, IsItemIn, CanBeRun, common_of, common_view, commons_of, function_by_item, item_function, no_common}
 
 -- ---- one more common part
 pub commons_more : (parts : List CommonPart) (p : CommonPart) → commons_of (parts ++ p ∷ []) ≡ commons_of parts ++ common_view p ∷ []
@@ -34,39 +34,39 @@ pub number_added : (commons : List Common) (c : Common) → IsNumberOf (commons 
 number_added commons c = (omega (arith, length-append commons (c ∷ [])), ap Some (get_or_push commons c no_common (length commons) refl))
 
 -- each function is put together of the same
-common_still : (commons : List Common) (c : Common) (i : SourceItem) → IsItemIn commons i → get_or (commons ++ c ∷ []) i.common no_common ≡ get_or commons i.common no_common
+common_still : (commons : List Common) (c : Common) (i : DescriptionItem) → IsItemIn commons i → get_or (commons ++ c ∷ []) i.common no_common ≡ get_or commons i.common no_common
 common_still commons c i h = get_or_append_left commons (c ∷ []) no_common i.common h.0
 
-in_still : (commons : List Common) (c : Common) (items : List SourceItem) → AllByRecursion (IsItemIn commons) items → AllByRecursion (IsItemIn (commons ++ c ∷ [])) items
+in_still : (commons : List Common) (c : Common) (items : List DescriptionItem) → AllByRecursion (IsItemIn commons) items → AllByRecursion (IsItemIn (commons ++ c ∷ [])) items
 in_still commons c [] h = tt
 in_still commons c (i ∷ is) h =
     ((omega (arith, h.0.0, length-append commons (c ∷ [])), subst (λ (x : Common). CanBeRun (function_by_item x i)) (sym (common_still commons c i h.0)) h.0.1), in_still commons c is h.1)
 
-same_still : (commons : List Common) (c : Common) (items : List SourceItem) → AllByRecursion (IsItemIn commons) items → map (item_function (commons ++ c ∷ [])) items ≡ map (item_function commons) items
+same_still : (commons : List Common) (c : Common) (items : List DescriptionItem) → AllByRecursion (IsItemIn commons) items → map (item_function (commons ++ c ∷ [])) items ≡ map (item_function commons) items
 same_still commons c [] h = refl
 same_still commons c (i ∷ is) h =
     ap (λ (f : Function). f ∷ map (item_function (commons ++ c ∷ [])) is) (ap (λ (x : Common). function_by_item x i) (common_still commons c i h.0))
     ∙ ap (λ (fs : List Function). item_function commons i ∷ fs) (same_still commons c is h.1)
 
-pub items_still : (parts : List CommonPart) (p : CommonPart) (items : List SourceItem) → All (IsItemIn (commons_of parts)) items → All (IsItemIn (commons_of (parts ++ p ∷ []))) items
+pub items_still : (parts : List CommonPart) (p : CommonPart) (items : List DescriptionItem) → All (IsItemIn (commons_of parts)) items → All (IsItemIn (commons_of (parts ++ p ∷ []))) items
 items_still parts p items h =
     subst (λ (cs : List Common). All (IsItemIn cs) items) (sym (commons_more parts p))
     (All-from_recursion (IsItemIn (commons_of parts ++ common_view p ∷ [])) items (in_still (commons_of parts) (common_view p) items (recursion_from_All (IsItemIn (commons_of parts)) items h)))
 
-pub functions_still : (parts : List CommonPart) (p : CommonPart) (items : List SourceItem) → All (IsItemIn (commons_of parts)) items → map (item_function (commons_of (parts ++ p ∷ []))) items ≡ map (item_function (commons_of parts)) items
+pub functions_still : (parts : List CommonPart) (p : CommonPart) (items : List DescriptionItem) → All (IsItemIn (commons_of parts)) items → map (item_function (commons_of (parts ++ p ∷ []))) items ≡ map (item_function (commons_of parts)) items
 functions_still parts p items h =
     ap (λ (cs : List Common). map (item_function cs) items) (commons_more parts p)
     ∙ same_still (commons_of parts) (common_view p) items (recursion_from_All (IsItemIn (commons_of parts)) items h)
 
 -- ---- one function
-pub within_items : (commons : List Common) (items : List SourceItem) (functions : List Function) (k : ℕ) → map (item_function commons) items ≡ functions → k < length functions → k < length items
+pub within_items : (commons : List Common) (items : List DescriptionItem) (functions : List Function) (k : ℕ) → map (item_function commons) items ≡ functions → k < length functions → k < length items
 within_items commons items functions k view lt = let long = length-map items (item_function commons) in let same = ap length view in omega (arith, lt, long, same)
 
-pub item_there : (commons : List Common) (items : List SourceItem) (functions : List Function) (k : ℕ) (i : SourceItem) (d : Function) → map (item_function commons) items ≡ functions → k < length functions → i ≡ get_or items k i → item_function commons i ≡ get_or functions k d
+pub item_there : (commons : List Common) (items : List DescriptionItem) (functions : List Function) (k : ℕ) (i : DescriptionItem) (d : Function) → map (item_function commons) items ≡ functions → k < length functions → i ≡ get_or items k i → item_function commons i ≡ get_or functions k d
 item_there commons items functions k i d view lt is =
     ap (item_function commons) is ∙ sym (get_or-map (item_function commons) items k i d (within_items commons items functions k view lt)) ∙ ap (λ (fs : List Function). get_or fs k d) view
 
-pub held_there : (commons : List Common) (items : List SourceItem) (functions : List Function) (k : ℕ) (i : SourceItem) → map (item_function commons) items ≡ functions → k < length functions → All (IsItemIn commons) items → i ≡ get_or items k i → IsItemIn commons i
+pub held_there : (commons : List Common) (items : List DescriptionItem) (functions : List Function) (k : ℕ) (i : DescriptionItem) → map (item_function commons) items ≡ functions → k < length functions → All (IsItemIn commons) items → i ≡ get_or items k i → IsItemIn commons i
 held_there commons items functions k i view lt all is = subst (IsItemIn commons) (sym is) (all k i (within_items commons items functions k view lt))
 
 pub common_there : (parts : List CommonPart) (n : ℕ) (p : CommonPart) → n < length (commons_of parts) → p ≡ get_or parts n p → get_or (commons_of parts) n no_common ≡ common_view p
@@ -96,5 +96,5 @@ is_common commons c n h = let is : Some (get_or commons n no_common) ≡ Some c 
 
 -- ---- while functions are read
 pub none_numbered : (arch : Arch) (section : List ℕ) (numbers : CommonNumbers) (read : ReadFunctions) → ((commons : List Common) → AreNumbered arch section numbers commons) → AreNumberedIn arch section numbers read
-none_numbered arch section numbers (Within held) h = h held.sources.common
+none_numbered arch section numbers (Within held) h = h held.descriptions.common
 none_numbered arch section numbers (Past count) h = tt

@@ -15,7 +15,7 @@ use Rattle.elf_reloc.specs.declared.fix.RelocatedField.{RelocatedField}
 use Rattle.sf_express.specs.Rules.{content_of}
 use Rattle.sf_express.specs.Offsets.{said}
 use Rattle.sf_express.specs.Runs.{AreSaid, function_of}
-use Rattle.frame_functions.specs.declared.entry.Expressed.{Expressed}
+use Rattle.frame_functions.specs.declared.read_function.Expressed.{Expressed}
 use Rattle.frame_functions.specs.declared.fault.AsmFault.{AsmFault}
 use Rattle.frame_functions.specs.declared.fault.AsmFault.TheVariants as asm
 use Rattle.frame_functions.specs.declared.read.ReadFunctions.{ReadFunctions}
@@ -25,7 +25,7 @@ use Rattle.sf_bytes.specs.Steps.{◌>>=◌, named}
 use Rattle.sf_model.specs.Firsts.{unless}
 use Rattle.frame_functions.specs.Functions.{Function, span_in, fault_in, function_at, function_in, functions_in, section_functions, sections_functions}
 use Rattle.frame_functions.specs.Relocated.{Values, on_pointers, patched_values, pointer_check}
-use Rattle.frame_functions.specs.Kept.{full_row, says_of, facts_of, outcome_by, entry_of}
+use Rattle.frame_functions.specs.Kept.{full_row, says_of, facts_of, outcome_by, read_of}
 use Rattle.frame_functions.specs.ReadSoFar.{ReadsAll}
 use Rattle.frame_functions.proofs.ReadSoFar.{GoesOn, goes_on, then_others}
 
@@ -42,17 +42,17 @@ are_said f rows h = λ o lt.
 
 pub reads_function : (arch : Arch) (item : ℕ) (section : CallFrames) (values : Values) (f : FdeView) (span : ℕ × ℕ) (outcome : Expressed) → Ok span ≡ named (asm.Record section.number) (span_in section values f) → fault_in arch f ≡ None
     → outcome ≡ outcome_by (function_of arch (facts_of (function_at arch item section f span)) (says_of (function_at arch item section f span)))
-    → seen_as entry_of (function_in arch item section values f) ≡ Ok (record { span = record { start = span.0; size = span.1; origin = record { item = item; section = section.number; place = f.place } }; outcome = outcome })
+    → seen_as read_of (function_in arch item section values f) ≡ Ok (record { span = record { start = span.0; size = span.1; origin = record { item = item; section = section.number; place = f.place } }; outcome = outcome })
 unfolding function_in
 reads_function arch item section values f span outcome p q r =
-    ap (λ (s : Result (ℕ × ℕ) AsmFault). seen_as entry_of (s >>= λ span. (named (asm.Machine section.number) (unless (fault_in arch f)) >>= λ _. Ok (function_at arch item section f span)))) (sym p)
-    ∙ ap (λ (x : Option _). seen_as entry_of (named (asm.Machine section.number) (unless x) >>= λ _. Ok (function_at arch item section f span))) q
+    ap (λ (s : Result (ℕ × ℕ) AsmFault). seen_as read_of (s >>= λ span. (named (asm.Machine section.number) (unless (fault_in arch f)) >>= λ _. Ok (function_at arch item section f span)))) (sym p)
+    ∙ ap (λ (x : Option _). seen_as read_of (named (asm.Machine section.number) (unless x) >>= λ _. Ok (function_at arch item section f span))) q
     ∙ ap (λ (o : Expressed). Ok (record { span = record { start = span.0; size = span.1; origin = record { item = item; section = section.number; place = f.place } }; outcome = o })) (sym r)
 
-pub reads_source : (arch : Arch) (item : ℕ) (section : CallFrames) (values : Values) (f : FdeView) (span : ℕ × ℕ) → Ok span ≡ named (asm.Record section.number) (span_in section values f) → fault_in arch f ≡ None
+pub reads_description : (arch : Arch) (item : ℕ) (section : CallFrames) (values : Values) (f : FdeView) (span : ℕ × ℕ) → Ok span ≡ named (asm.Record section.number) (span_in section values f) → fault_in arch f ≡ None
     → function_in arch item section values f ≡ Ok (function_at arch item section f span)
 unfolding function_in
-reads_source arch item section values f span p q =
+reads_description arch item section values f span p q =
     ap (λ (s : Result (ℕ × ℕ) AsmFault). s >>= λ span. (named (asm.Machine section.number) (unless (fault_in arch f)) >>= λ _. Ok (function_at arch item section f span))) (sym p)
     ∙ ap (λ (x : Option _). named (asm.Machine section.number) (unless x) >>= λ _. Ok (function_at arch item section f span)) q
 

@@ -10,7 +10,7 @@ use Rattle.cfa_insn.specs.Listing.{listing}
 use Rattle.cfa_machine.specs.declared.columns.Columns.{Columns}
 use Rattle.cfa_machine.specs.Initial.{IsInitial}
 use Rattle.eh_records.specs.Cie.{CieView}
-use Rattle.frame_functions.specs.InitialRows.{IsInitialAt, IsInitialOf, row_source}
+use Rattle.frame_functions.specs.InitialRows.{IsInitialAt, IsInitialOf, row_origin}
 
 -- each row of a map is that of the entry at its place
 abbrev pub AreAt : Arch → List ℕ → BTreeMap ℕ Columns → Type 0
@@ -23,16 +23,16 @@ some_same : (x y : Columns) → Some x ≡ Some y → x ≡ y
 some_same x y e = cc
 
 -- the row of the entry at a place is that of its instructions
-same_source : (x y : ℤ × Cursor) → Some x ≡ Some y → x ≡ y
-same_source x y e = cc
+same_description : (x y : ℤ × Cursor) → Some x ≡ Some y → x ≡ y
+same_description x y e = cc
 
-pub row_of_instructions : (arch : Arch) (cie : Option CieView) (f : ℤ) (at : Cursor) (row : Columns) → option_map row_source cie ≡ Some (f, at) → IsInitialOf arch cie row → IsInitial arch f (listing at) row
+pub row_of_instructions : (arch : Arch) (cie : Option CieView) (f : ℤ) (at : Cursor) (row : Columns) → option_map row_origin cie ≡ Some (f, at) → IsInitialOf arch cie row → IsInitial arch f (listing at) row
 row_of_instructions arch None f at row has is = absurd cc
-row_of_instructions arch (Some cie) f at row has is = subst (λ (s : ℤ × Cursor). IsInitial arch s.0 (listing s.1) row) (same_source (row_source cie) (f, at) has) is
+row_of_instructions arch (Some cie) f at row has is = subst (λ (s : ℤ × Cursor). IsInitial arch s.0 (listing s.1) row) (same_description (row_origin cie) (f, at) has) is
 
-pub row_of_entry : (arch : Arch) (cie : Option CieView) (f : ℤ) (at : Cursor) (row : Columns) → option_map row_source cie ≡ Some (f, at) → IsInitial arch f (listing at) row → IsInitialOf arch cie row
+pub row_of_entry : (arch : Arch) (cie : Option CieView) (f : ℤ) (at : Cursor) (row : Columns) → option_map row_origin cie ≡ Some (f, at) → IsInitial arch f (listing at) row → IsInitialOf arch cie row
 row_of_entry arch None f at row has is = tt
-row_of_entry arch (Some cie) f at row has is = subst (λ (s : ℤ × Cursor). IsInitial arch s.0 (listing s.1) row) (sym (same_source (row_source cie) (f, at) has)) is
+row_of_entry arch (Some cie) f at row has is = subst (λ (s : ℤ × Cursor). IsInitial arch s.0 (listing s.1) row) (sym (same_description (row_origin cie) (f, at) has)) is
 
 with_one : (arch : Arch) (section : List ℕ) (p q : ℕ) (row : Columns) (before : Option Columns) (b : Bool) → (b ≡ true → p ≡ q) → IsInitialAt arch section p row → ForSome before (λ (x : Columns). IsInitialAt arch section q x)
     → ForSome (cond b (Some row) before) (λ (x : Columns). IsInitialAt arch section q x)

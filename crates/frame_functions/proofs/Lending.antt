@@ -4,34 +4,34 @@ use Rattle.std.proofs.Common.{◌≡◌, cond, List, [], ◌∷◌, ◌++◌, Op
 use Rattle.std.proofs.lemmas.List.Elements.{filter-append}
 use Rattle.sf_model.specs.declared.omission.Omission.{Omission}
 use Rattle.sf_express.specs.Runs.{expressed, function_of, omission_of, unless_omitted}
-use Rattle.frame_functions.specs.declared.entry.Entry.{Entry}
+use Rattle.frame_functions.specs.declared.read_function.ReadFunction.{ReadFunction}
 use Rattle.frame_functions.specs.declared.fault.AsmFault.{AsmFault}
 use Rattle.frame_functions.specs.Answers.{seen_as}
 use Rattle.frame_functions.specs.Functions.{Function}
-use Rattle.frame_functions.specs.Kept.{entry_of, facts_of, is_kept, omitted_functions, outcome_by, says_of}
-use Rattle.frame_functions.specs.Sources.{if_left}
+use Rattle.frame_functions.specs.Kept.{read_of, facts_of, is_kept, omitted_functions, outcome_by, says_of}
+use Rattle.frame_functions.specs.Descriptions.{if_left}
 
 -- ---- one function
 by_omission : (f : Function) (omission : Option Omission) → if_left (outcome_by (unless_omitted omission (expressed (facts_of f) (says_of f)))) f ≡ cond (not (is_none omission)) (f ∷ []) []
 by_omission f None = refl
 by_omission f (Some omission) = refl
 
-left_is : (f : Function) → if_left (entry_of f).outcome f ≡ omitted_functions (f ∷ [])
+left_is : (f : Function) → if_left (read_of f).outcome f ≡ omitted_functions (f ∷ [])
 unfolding function_of
 left_is f = by_omission f (omission_of f.arch (facts_of f) (says_of f))
 
 -- one function more
-pub one_omitted : (before : List Function) (f : Function) (entry : Entry) → entry_of f ≡ entry → omitted_functions (before ++ f ∷ []) ≡ omitted_functions before ++ if_left entry.outcome f
+pub one_omitted : (before : List Function) (f : Function) (entry : ReadFunction) → read_of f ≡ entry → omitted_functions (before ++ f ∷ []) ≡ omitted_functions before ++ if_left entry.outcome f
 one_omitted before f entry is =
     filter-append (λ (g : Function). not (is_kept g)) before (f ∷ [])
-    ∙ ap (λ (fs : List Function). omitted_functions before ++ fs) (sym (left_is f) ∙ ap (λ (e : Entry). if_left e.outcome f) is)
+    ∙ ap (λ (fs : List Function). omitted_functions before ++ fs) (sym (left_is f) ∙ ap (λ (e : ReadFunction). if_left e.outcome f) is)
 
 -- what becomes of a function is what was read of it
-pub one_entry : (one : Result Function AsmFault) (entry : Entry) (f : Function) → seen_as entry_of one ≡ Ok entry → one ≡ Ok f → entry_of f ≡ entry
+pub one_entry : (one : Result Function AsmFault) (entry : ReadFunction) (f : Function) → seen_as read_of one ≡ Ok entry → one ≡ Ok f → read_of f ≡ entry
 one_entry (Ok g) entry f e is =
     let same : g ≡ f = cc in
-    let there : entry_of g ≡ entry = cc in
-    sym (ap entry_of same) ∙ there
+    let there : read_of g ≡ entry = cc in
+    sym (ap read_of same) ∙ there
 one_entry (Err fault) entry f e is = cc
 
 -- what follows from what holds where a call returns a value

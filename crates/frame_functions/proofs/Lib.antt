@@ -1,4 +1,4 @@
-pub mod Heads
+pub mod ListedFunctions
 pub mod KeptRows
 pub mod FunctionsOfSection
 pub mod ReadSoFar
@@ -8,4 +8,4 @@ pub mod Patching
 pub mod MadeRows
 pub mod Lending
 pub mod CommonParts
-pub mod SaidPieces
+pub mod SaidRanges

@@ -28,11 +28,11 @@ use Rattle.sf_express.specs.Runs.{AreSaid, function_of}
 use Rattle.sf_express.proofs.ByOffsets.{answer_means}
 use Rattle.sf_express.proofs.Omitted.{answer_omits}
 use Rattle.sf_express.proofs.Writable.{FunctionFits, function_by-fits, rows_of_kept}
-use Rattle.frame_functions.specs.declared.entry.Expressed.{Expressed}
-use Rattle.frame_functions.specs.declared.entry.Expressed.TheVariants as outcome
+use Rattle.frame_functions.specs.declared.read_function.Expressed.{Expressed}
+use Rattle.frame_functions.specs.declared.read_function.Expressed.TheVariants as outcome
 use Rattle.frame_functions.specs.declared.fault.AsmFault.{AsmFault}
 use Rattle.frame_functions.specs.declared.fault.AsmFault.TheVariants as asm
-use Rattle.frame_functions.specs.Entry.{IsSoundOutcome}
+use Rattle.frame_functions.specs.ReadFunction.{IsSoundOutcome}
 use Rattle.sf_bytes.specs.Steps.{named}
 use Rattle.sf_model.specs.Firsts.{unless}
 use Rattle.frame_functions.specs.Functions.{Function}

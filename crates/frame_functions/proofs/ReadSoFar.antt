@@ -8,19 +8,19 @@ use Rattle.std.proofs.lemmas.List.Elements.{All-from_recursion}
 use Rattle.std.proofs.lemmas.List.Sorted.{length_permutation, sum_by-IsPermutation}
 use Rattle.std.proofs.lemmas.List.Sums.{sum_by-append, sum_by-cons}
 use Rattle.sf_model.specs.declared.machine.Arch.{Arch}
-use Rattle.frame_functions.specs.declared.entry.Entry.{Entry}
+use Rattle.frame_functions.specs.declared.read_function.ReadFunction.{ReadFunction}
 use Rattle.sf_functions.specs.declared.limits.Limit.TheVariants as limit
 use Rattle.frame_functions.specs.declared.read.HeldFunctions.{HeldFunctions}
 use Rattle.frame_functions.specs.declared.read.ReadFunctions.{ReadFunctions}
 use Rattle.frame_functions.specs.declared.read.ReadFunctions.TheVariants.{Within, Past}
 use Rattle.frame_functions.specs.Answers.{after_read}
-use Rattle.frame_functions.specs.Entry.{IsSound}
+use Rattle.frame_functions.specs.ReadFunction.{IsSound}
 use Rattle.sf_bytes.specs.Steps.{◌>>=◌}
 use Rattle.frame_functions.specs.Functions.{Function}
-use Rattle.frame_functions.specs.Kept.{entry_of}
-use Rattle.frame_functions.specs.Order.{entry_rows, exceeded_by}
+use Rattle.frame_functions.specs.Kept.{read_of}
+use Rattle.frame_functions.specs.Order.{read_rows, exceeded_by}
 use Rattle.frame_functions.specs.ReadSoFar.{AreCounted, AreHeld, AreReadSoFar, AreSound, ReadsFunctions, ReadsAll}
-use Rattle.frame_functions.specs.Sources.{if_left}
+use Rattle.frame_functions.specs.Descriptions.{if_left}
 use Rattle.frame_functions.proofs.Lending.{one_omitted}
 use Rattle.frame_functions.proofs.Limits.{too_many_functions, too_many_rows, within_limits}
 
@@ -82,18 +82,18 @@ pub ends : {F : Type 0} (lending : Bool) (old new : ReadFunctions) (left all : R
 ends lending old new left all fault h e = sym h.comes ∙ ap (after_read h.some) e
 
 -- ---- past a limit
-past_means : (entries : List Entry) → is_none (exceeded_by entries) ≡ false → (2 ^ 21 < length entries) ⊎ (2 ^ 24 < sum_by entry_rows entries)
-past_means entries h = at_tests (nat_lt (2 ^ 21) (length entries)) (nat_lt (2 ^ 24) (sum_by entry_rows entries)) refl refl
+past_means : (entries : List ReadFunction) → is_none (exceeded_by entries) ≡ false → (2 ^ 21 < length entries) ⊎ (2 ^ 24 < sum_by read_rows entries)
+past_means entries h = at_tests (nat_lt (2 ^ 21) (length entries)) (nat_lt (2 ^ 24) (sum_by read_rows entries)) refl refl
   where
-    at_tests : (functions rows : Bool) → nat_lt (2 ^ 21) (length entries) ≡ functions → nat_lt (2 ^ 24) (sum_by entry_rows entries) ≡ rows → (2 ^ 21 < length entries) ⊎ (2 ^ 24 < sum_by entry_rows entries)
+    at_tests : (functions rows : Bool) → nat_lt (2 ^ 21) (length entries) ≡ functions → nat_lt (2 ^ 24) (sum_by read_rows entries) ≡ rows → (2 ^ 21 < length entries) ⊎ (2 ^ 24 < sum_by read_rows entries)
     at_tests true rows t u = inl (ltb-true (2 ^ 21) (length entries) t)
-    at_tests false true t u = inr (ltb-true (2 ^ 24) (sum_by entry_rows entries) u)
+    at_tests false true t u = inr (ltb-true (2 ^ 24) (sum_by read_rows entries) u)
     at_tests false false t u =
-        let none = within_limits entries (ltb-false (2 ^ 21) (length entries) t) (ltb-false (2 ^ 24) (sum_by entry_rows entries) u) in
+        let none = within_limits entries (ltb-false (2 ^ 21) (length entries) t) (ltb-false (2 ^ 24) (sum_by read_rows entries) u) in
         let both : true ≡ false = sym (ap is_none none) ∙ h in
         cc
 
-is_past : (entries : List Entry) → (2 ^ 21 < length entries) ⊎ (2 ^ 24 < sum_by entry_rows entries) → is_none (exceeded_by entries) ≡ false
+is_past : (entries : List ReadFunction) → (2 ^ 21 < length entries) ⊎ (2 ^ 24 < sum_by read_rows entries) → is_none (exceeded_by entries) ≡ false
 is_past entries (inl many) = ap is_none (too_many_functions entries many)
 is_past entries (inr many) = at_test (nat_lt (2 ^ 21) (length entries)) refl
   where
@@ -105,24 +105,24 @@ is_past entries (inr many) = at_test (nat_lt (2 ^ 21) (length entries)) refl
 one_longer : (before : List Function) (f : Function) → length (before ++ f ∷ []) ≡ length before + 1
 one_longer before f = length-append before (f ∷ [])
 
-entries_more : (before : List Function) (f : Function) → map entry_of (before ++ f ∷ []) ≡ map entry_of before ++ entry_of f ∷ []
-entries_more before f = map-append entry_of before (f ∷ [])
+entries_more : (before : List Function) (f : Function) → map read_of (before ++ f ∷ []) ≡ map read_of before ++ read_of f ∷ []
+entries_more before f = map-append read_of before (f ∷ [])
 
-rows_more : (before : List Function) (f : Function) → sum_by entry_rows (map entry_of (before ++ f ∷ [])) ≡ sum_by entry_rows (map entry_of before) + entry_rows (entry_of f)
+rows_more : (before : List Function) (f : Function) → sum_by read_rows (map read_of (before ++ f ∷ [])) ≡ sum_by read_rows (map read_of before) + read_rows (read_of f)
 rows_more before f =
-    ap (sum_by entry_rows) (entries_more before f) ∙ sum_by-append entry_rows (map entry_of before) (entry_of f ∷ [])
-    ∙ ap (λ (n : ℕ). sum_by entry_rows (map entry_of before) + n) (sum_by-cons entry_rows (entry_of f) [] ∙ omega arith)
+    ap (sum_by read_rows) (entries_more before f) ∙ sum_by-append read_rows (map read_of before) (read_of f ∷ [])
+    ∙ ap (λ (n : ℕ). sum_by read_rows (map read_of before) + n) (sum_by-cons read_rows (read_of f) [] ∙ omega arith)
 
-still_past : (before : List Function) (f : Function) → (2 ^ 21 < length (map entry_of before)) ⊎ (2 ^ 24 < sum_by entry_rows (map entry_of before)) → is_none (exceeded_by (map entry_of (before ++ f ∷ []))) ≡ false
+still_past : (before : List Function) (f : Function) → (2 ^ 21 < length (map read_of before)) ⊎ (2 ^ 24 < sum_by read_rows (map read_of before)) → is_none (exceeded_by (map read_of (before ++ f ∷ []))) ≡ false
 still_past before f (inl many) =
-    is_past (map entry_of (before ++ f ∷ []))
-    (inl (omega (arith, many, length-map before entry_of, length-map (before ++ f ∷ []) entry_of, one_longer before f)))
-still_past before f (inr many) = is_past (map entry_of (before ++ f ∷ [])) (inr (omega (arith, many, rows_more before f)))
+    is_past (map read_of (before ++ f ∷ []))
+    (inl (omega (arith, many, length-map before read_of, length-map (before ++ f ∷ []) read_of, one_longer before f)))
+still_past before f (inr many) = is_past (map read_of (before ++ f ∷ [])) (inr (omega (arith, many, rows_more before f)))
 
 pub one_counted : (count : ℕ) (before : List Function) (f : Function) → AreCounted count before → AreCounted (min count (2 ^ 21) + 1) (before ++ f ∷ [])
 one_counted count before f h = record {
   counted = omega (arith, h.counted, one_longer before f);
-  past = still_past before f (past_means (map entry_of before) h.past);
+  past = still_past before f (past_means (map read_of before) h.past);
 }
 
 -- there is no room for it
@@ -130,56 +130,56 @@ no_room : (few rows : Bool) → (few && rows) ≡ false → (few ≡ false) ⊎ 
 no_room false rows e = inl refl
 no_room true rows e = inr e
 
-pub one_too_many : (lending : Bool) (held : HeldFunctions) (before : List Function) (f : Function) → AreHeld lending held before → (nat_lt (length held.entries) (2 ^ 21) && nat_le (entry_rows (entry_of f)) held.rows_left) ≡ false
+pub one_too_many : (lending : Bool) (held : HeldFunctions) (before : List Function) (f : Function) → AreHeld lending held before → (nat_lt (length held.entries) (2 ^ 21) && nat_le (read_rows (read_of f)) held.rows_left) ≡ false
     → AreCounted (min (length held.entries) (2 ^ 21) + 1) (before ++ f ∷ [])
 one_too_many lending held before f h full =
-    let count : length held.entries ≡ length before = ap length h.entries ∙ length-map before entry_of in
+    let count : length held.entries ≡ length before = ap length h.entries ∙ length-map before read_of in
     record {
       counted = omega (arith, count, h.few, one_longer before f);
-      past = is_past (map entry_of (before ++ f ∷ [])) (elim (no_room (nat_lt (length held.entries) (2 ^ 21)) (nat_le (entry_rows (entry_of f)) held.rows_left) full) [
-        | inl many ↦ inl (omega (arith, ltb-false (length held.entries) (2 ^ 21) many, count, length-map (before ++ f ∷ []) entry_of, one_longer before f))
-        | inr many ↦ inr (omega (arith, leb-false (entry_rows (entry_of f)) held.rows_left many, h.rows, rows_more before f))
+      past = is_past (map read_of (before ++ f ∷ [])) (elim (no_room (nat_lt (length held.entries) (2 ^ 21)) (nat_le (read_rows (read_of f)) held.rows_left) full) [
+        | inl many ↦ inl (omega (arith, ltb-false (length held.entries) (2 ^ 21) many, count, length-map (before ++ f ∷ []) read_of, one_longer before f))
+        | inr many ↦ inr (omega (arith, leb-false (read_rows (read_of f)) held.rows_left many, h.rows, rows_more before f))
       ]);
     }
 
 -- there is room for it
-pub has_room : (entries : List Entry) (rows left : ℕ) → (nat_lt (length entries) (2 ^ 21) && nat_le rows left) ≡ true → length entries < 2 ^ 21
+pub has_room : (entries : List ReadFunction) (rows left : ℕ) → (nat_lt (length entries) (2 ^ 21) && nat_le rows left) ≡ true → length entries < 2 ^ 21
 has_room entries rows left e = at_test (nat_lt (length entries) (2 ^ 21)) refl e
   where
     at_test : (b : Bool) → nat_lt (length entries) (2 ^ 21) ≡ b → (b && nat_le rows left) ≡ true → length entries < 2 ^ 21
     at_test true t e = ltb-true (length entries) (2 ^ 21) t
     at_test false t e = cc
 
-pub one_held : (lending : Bool) (old new : HeldFunctions) (before : List Function) (f : Function) (entry : Entry) → AreHeld lending old before → entry_of f ≡ entry → length old.entries < 2 ^ 21 → new.entries ≡ old.entries ++ entry ∷ []
-    → new.rows_left + entry_rows entry ≡ old.rows_left → (IsTrue lending → new.sources.functions ≡ old.sources.functions ++ if_left entry.outcome f) → AreHeld lending new (before ++ f ∷ [])
+pub one_held : (lending : Bool) (old new : HeldFunctions) (before : List Function) (f : Function) (entry : ReadFunction) → AreHeld lending old before → read_of f ≡ entry → length old.entries < 2 ^ 21 → new.entries ≡ old.entries ++ entry ∷ []
+    → new.rows_left + read_rows entry ≡ old.rows_left → (IsTrue lending → new.descriptions.functions ≡ old.descriptions.functions ++ if_left entry.outcome f) → AreHeld lending new (before ++ f ∷ [])
 one_held lending old new before f entry h is room entries rows lent =
-    let count : length old.entries ≡ length before = ap length h.entries ∙ length-map before entry_of in
+    let count : length old.entries ≡ length before = ap length h.entries ∙ length-map before read_of in
     record {
-      entries = entries ∙ ap (λ (es : List Entry). es ++ entry ∷ []) h.entries ∙ ap (λ (e : Entry). map entry_of before ++ e ∷ []) (sym is) ∙ sym (entries_more before f);
+      entries = entries ∙ ap (λ (es : List ReadFunction). es ++ entry ∷ []) h.entries ∙ ap (λ (e : ReadFunction). map read_of before ++ e ∷ []) (sym is) ∙ sym (entries_more before f);
       few = omega (arith, room, count, one_longer before f);
-      rows = omega (arith, rows, h.rows, rows_more before f, ap entry_rows is);
+      rows = omega (arith, rows, h.rows, rows_more before f, ap read_rows is);
       lent = λ asked. lent asked ∙ ap (λ (fs : List Function). fs ++ if_left entry.outcome f) (h.lent asked) ∙ sym (one_omitted before f entry is);
     }
 
 -- ---- the limits
-pub held_within : (lending : Bool) (held : HeldFunctions) (functions : List Function) → AreHeld lending held functions → exceeded_by (map entry_of functions) ≡ None
-held_within lending held functions h = within_limits (map entry_of functions) (omega (arith, h.few, length-map functions entry_of)) (omega (arith, h.rows))
+pub held_within : (lending : Bool) (held : HeldFunctions) (functions : List Function) → AreHeld lending held functions → exceeded_by (map read_of functions) ≡ None
+held_within lending held functions h = within_limits (map read_of functions) (omega (arith, h.few, length-map functions read_of)) (omega (arith, h.rows))
 
-pub counted_many : (count : ℕ) (functions : List Function) → AreCounted count functions → 2 ^ 21 < count → exceeded_by (map entry_of functions) ≡ Some limit.Functions
-counted_many count functions h many = too_many_functions (map entry_of functions) (omega (arith, many, h.counted, length-map functions entry_of))
+pub counted_many : (count : ℕ) (functions : List Function) → AreCounted count functions → 2 ^ 21 < count → exceeded_by (map read_of functions) ≡ Some limit.Functions
+counted_many count functions h many = too_many_functions (map read_of functions) (omega (arith, many, h.counted, length-map functions read_of))
 
-pub counted_few : (count : ℕ) (functions : List Function) → AreCounted count functions → count ≤ 2 ^ 21 → exceeded_by (map entry_of functions) ≡ Some limit.Rows
+pub counted_few : (count : ℕ) (functions : List Function) → AreCounted count functions → count ≤ 2 ^ 21 → exceeded_by (map read_of functions) ≡ Some limit.Rows
 counted_few count functions h few =
-    let all : length (map entry_of functions) ≤ 2 ^ 21 = omega (arith, few, h.counted, length-map functions entry_of) in
-    elim (past_means (map entry_of functions) h.past) [
+    let all : length (map read_of functions) ≤ 2 ^ 21 = omega (arith, few, h.counted, length-map functions read_of) in
+    elim (past_means (map read_of functions) h.past) [
       | inl many ↦ absurd (omega (arith, many, all))
-      | inr many ↦ too_many_rows (map entry_of functions) all many
+      | inr many ↦ too_many_rows (map read_of functions) all many
     ]
 
 -- in another order
-pub limits_moved : (all ordered : List Entry) → IsPermutation all ordered → exceeded_by ordered ≡ exceeded_by all
+pub limits_moved : (all ordered : List ReadFunction) → IsPermutation all ordered → exceeded_by ordered ≡ exceeded_by all
 unfolding exceeded_by
-limits_moved all ordered moved = rw (length_permutation all ordered moved, sum_by-IsPermutation entry_rows all ordered moved) refl
+limits_moved all ordered moved = rw (length_permutation all ordered moved, sum_by-IsPermutation read_rows all ordered moved) refl
 
 -- ---- functions that a section can hold
 pub none_sound : (arch : Arch) (lending : Bool) (read : ReadFunctions) → AreReadSoFar lending read [] → AreSound arch read

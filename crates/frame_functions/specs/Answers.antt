@@ -1,16 +1,16 @@
--- Inside the crate. What inner calls return, by the definitions of what a section comes to.
+-- What calls answer, by the definitions of what a section comes to (LSB Core, "The .eh_frame section").
 use Rattle.std.specs.Prelude.{◌≡◌, ◌⊎◌, ℕ, List, ◌++◌, Option, Result, Ok, Err}
 use Rattle.cfa_machine.specs.declared.fault.MachineFault.{MachineFault}
 use Rattle.eh_records.specs.declared.fault.RecordFault.{RecordFault}
 use Rattle.eh_records.specs.Section.{EntryView}
 use Rattle.elf_reloc.specs.declared.fault.RelocFault.{RelocFault}
-use Rattle.frame_functions.specs.declared.entry.Entry.{Entry}
+use Rattle.frame_functions.specs.declared.read_function.ReadFunction.{ReadFunction}
 use Rattle.frame_functions.specs.declared.fault.AsmFault.{AsmFault}
 use Rattle.frame_functions.specs.declared.fault.AsmFault.TheVariants as asm
 use Rattle.sf_bytes.specs.Steps.{named}
 use Rattle.sf_model.specs.Firsts.{unless}
 use Rattle.frame_functions.specs.Functions.{Function}
-use Rattle.frame_functions.specs.Kept.{entry_of, omitted_functions}
+use Rattle.frame_functions.specs.Kept.{read_of, omitted_functions}
 
 -- ---- Inside the crate: what inner calls return
 -- a value that is seen as another one
@@ -19,8 +19,8 @@ seen_as view (Ok x) = Ok (view x)
 seen_as view (Err fault) = Err fault
 
 -- what was read of one function is what becomes of it; or its fault was returned, or memory ran out
-abbrev pub ReadsOne : Result Entry AsmFault → Result Function AsmFault → Type 0
-ReadsOne (Ok entry) given = seen_as entry_of given ≡ Ok entry
+abbrev pub ReadsOne : Result ReadFunction AsmFault → Result Function AsmFault → Type 0
+ReadsOne (Ok entry) given = seen_as read_of given ≡ Ok entry
 ReadsOne (Err fault) given = (fault ≡ asm.NoMemory) ⊎ (given ≡ Err fault)
 
 -- the fault of the first instruction of a section's function that can't be run was returned, or memory ran out

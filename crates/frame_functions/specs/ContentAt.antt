@@ -1,5 +1,5 @@
 -- What call frame information (DWARF 5, section 6.4) says of the caller's frame at each address, where SFrame Version 2 has a form for it
--- (GNU SFrame specification, "SFrame Frame Row Entries"): of kept and of omitted functions.
+-- (GNU SFrame specification, "SFrame Frame Row FunctionList"): of kept and of omitted functions.
 use Rattle.std.specs.Prelude.{◌≡◌, ◌≤◌, ◌-◌, ◌==◌, ◌&&◌, ℕ, Bool, not, IsTrue, List, Option, Some, None, ⊤, if◌then◌else◌}
 use Rattle.std.specs.List.{All, find}
 use Rattle.std.specs.Option.{option_and_then, option_map}
@@ -7,9 +7,9 @@ use Rattle.sf_model.specs.declared.content.Content.{Content}
 use Rattle.sf_model.specs.declared.machine.Arch.{Arch}
 use Rattle.sf_model.specs.declared.machine.Key.{Key}
 use Rattle.sf_model.specs.Content.{content_fits}
-use Rattle.sf_express.specs.declared.pieces.Piece.{Piece}
+use Rattle.sf_express.specs.declared.content_ranges.ContentRange.{ContentRange}
 use Rattle.cfa_machine.specs.Registers.{return_address}
-use Rattle.sf_express.specs.Pieces.{content_in}
+use Rattle.sf_express.specs.ContentRanges.{content_in}
 use Rattle.frame_functions.specs.declared.keyed_content.KeyedContent.{KeyedContent}
 use Rattle.frame_functions.specs.Functions.{holds_address, Function}
 use Rattle.frame_functions.specs.Kept.{says_of}
@@ -66,6 +66,6 @@ abbrev pub IfFits : Arch → Option Content → Type 0
 IfFits arch None = ⊤
 IfFits arch (Some content) = IsTrue (content_fits arch content)
 
--- all pieces have contents of the machine
-abbrev pub AllFit : Arch → List Piece → Type 0
-AllFit arch pieces = All (λ (p : Piece). IfFits arch p.content) pieces
+-- all ranges have contents of the machine
+abbrev pub AllFit : Arch → List ContentRange → Type 0
+AllFit arch ranges = All (λ (p : ContentRange). IfFits arch p.content) ranges

@@ -1,4 +1,4 @@
--- Inside the crate. The initial rows of a section's common information entries, kept by the places of the entries (LSB Core, "The .eh_frame section";
+-- The initial rows of a section's common information entries, kept by the places of the entries (LSB Core, "The .eh_frame section";
 -- DWARF 5, section 6.4.1).
 use Rattle.std.specs.Prelude.{◌≡◌, ℕ, ℤ, List, Option, Some, None}
 use Rattle.std.specs.BTreeMap.{get}
@@ -24,12 +24,12 @@ abbrev pub IsInitialAt : Arch → (section : List ℕ) → (place : ℕ) → Col
 IsInitialAt arch section place row = IsInitialOf arch (standing_cie arch section place) row
 
 -- what an initial row comes from: the data alignment factor and the instructions of the entry
-abbrev pub row_source : CieView → ℤ × Cursor
-row_source cie = (cie.data_alignment_factor, cie.insns)
+abbrev pub row_origin : CieView → ℤ × Cursor
+row_origin cie = (cie.data_alignment_factor, cie.insns)
 
 -- the entry at this place has these instructions and this factor
 abbrev pub HasInstructions : Arch → (section : List ℕ) → InitialInstructions → Type 0
-HasInstructions arch section i = option_map row_source (standing_cie arch section i.place) ≡ Some (i.factor, cursor i.insns)
+HasInstructions arch section i = option_map row_origin (standing_cie arch section i.place) ≡ Some (i.factor, cursor i.insns)
 
 -- each row that is kept is that of the entry at its place
 pub record AreInitial (arch : Arch) (section : List ℕ) (initials : InitialRows) : Type 0 where

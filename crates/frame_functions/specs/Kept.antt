@@ -10,9 +10,9 @@ use Rattle.cfa_machine.specs.Columns.{row_from}
 use Rattle.cfa_machine.specs.FullRow.{FullRow, columns_of}
 use Rattle.sf_express.specs.Rules.{content_of}
 use Rattle.sf_express.specs.Runs.{Saying, omission_of, function_of}
-use Rattle.frame_functions.specs.declared.entry.Entry.{Entry}
-use Rattle.frame_functions.specs.declared.entry.Expressed.{Expressed}
-use Rattle.frame_functions.specs.declared.entry.Expressed.TheVariants as outcome
+use Rattle.frame_functions.specs.declared.read_function.ReadFunction.{ReadFunction}
+use Rattle.frame_functions.specs.declared.read_function.Expressed.{Expressed}
+use Rattle.frame_functions.specs.declared.read_function.Expressed.TheVariants as outcome
 use Rattle.frame_functions.specs.Functions.{Function}
 
 -- the row of a function at an offset, with all registers
@@ -33,8 +33,8 @@ outcome_by (Ok function) = outcome.Kept function
 outcome_by (Err omission) = outcome.LeftOut omission
 
 -- a function with its addresses and origin, and what becomes of it
-abbrev pub entry_of : Function → Entry
-entry_of f = record {
+abbrev pub read_of : Function → ReadFunction
+read_of f = record {
   span = record { start = f.start; size = f.size; origin = f.origin };
   outcome = outcome_by (function_of f.arch (facts_of f) (says_of f));
 }

@@ -1,5 +1,5 @@
-pub mod Entry
-pub mod Heads
+pub mod ReadFunction
+pub mod ListedFunctions
 pub mod Order
 pub mod Fault
 pub mod FaultShown
@@ -8,7 +8,7 @@ pub mod CallFrames
 pub mod Functions
 pub mod Kept
 pub mod InitialRows
-pub mod Sources
+pub mod Descriptions
 pub mod Numbers
 pub mod Lent
 pub mod ReadSoFar

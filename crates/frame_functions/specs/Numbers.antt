@@ -7,7 +7,7 @@ use Rattle.std.specs.Ordering.{nat_cmp}
 use Rattle.sf_model.specs.declared.machine.Arch.{Arch}
 use Rattle.eh_records.specs.Named.{standing_cie}
 use Rattle.frame_functions.specs.declared.numbers.CommonNumbers.{CommonNumbers}
-use Rattle.frame_functions.specs.Sources.{Common, common_of, no_common}
+use Rattle.frame_functions.specs.Descriptions.{Common, common_of, no_common}
 
 -- the number at a place
 abbrev pub common_number_at : CommonNumbers → (place : ℕ) → Option ℕ

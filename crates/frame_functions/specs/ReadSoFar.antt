@@ -1,4 +1,4 @@
--- Inside the crate. The functions that were read so far: within the limits they are held, and past one they are only counted.
+-- The functions that were read so far: within the limits they are held, and past one they are only counted.
 use Rattle.std.specs.Prelude.{◌≡◌, ◌⊎◌, ◌≤◌, ◌+◌, ◌^◌, ℕ, Bool, false, IsTrue, is_none, List, ◌++◌, map, length, min, sum_by, All, Result, Ok, Err}
 use Rattle.sf_model.specs.declared.machine.Arch.{Arch}
 use Rattle.frame_functions.specs.declared.fault.AsmFault.{AsmFault}
@@ -6,24 +6,24 @@ use Rattle.frame_functions.specs.declared.fault.AsmFault.TheVariants as asm
 use Rattle.frame_functions.specs.declared.read.HeldFunctions.{HeldFunctions}
 use Rattle.frame_functions.specs.declared.read.ReadFunctions.{ReadFunctions}
 use Rattle.frame_functions.specs.declared.read.ReadFunctions.TheVariants.{Within, Past}
-use Rattle.frame_functions.specs.Entry.{IsSound}
+use Rattle.frame_functions.specs.ReadFunction.{IsSound}
 use Rattle.frame_functions.specs.Functions.{Function}
-use Rattle.frame_functions.specs.Kept.{entry_of, omitted_functions}
-use Rattle.frame_functions.specs.Order.{entry_rows, exceeded_by}
+use Rattle.frame_functions.specs.Kept.{read_of, omitted_functions}
+use Rattle.frame_functions.specs.Order.{read_rows, exceeded_by}
 use Rattle.frame_functions.specs.Numbers.{AreNumbered}
 use Rattle.frame_functions.specs.declared.numbers.CommonNumbers.{CommonNumbers}
 
 -- within the limits: all functions, the number of rows that may still come, and the omitted ones if they are to be lent
 pub record AreHeld (lending : Bool) (held : HeldFunctions) (functions : List Function) : Type 0 where
-  pub entries : held.entries ≡ map entry_of functions
+  pub entries : held.entries ≡ map read_of functions
   pub few : length functions ≤ 2 ^ 21
-  pub rows : sum_by entry_rows (map entry_of functions) + held.rows_left ≡ 2 ^ 24
-  pub lent : IsTrue lending → held.sources.functions ≡ omitted_functions functions
+  pub rows : sum_by read_rows (map read_of functions) + held.rows_left ≡ 2 ^ 24
+  pub lent : IsTrue lending → held.descriptions.functions ≡ omitted_functions functions
 
 -- past a limit: how many there are; a number above the limit of functions counts as one above it
 pub record AreCounted (count : ℕ) (functions : List Function) : Type 0 where
   pub counted : count ≡ min (length functions) (2 ^ 21 + 1)
-  pub past : is_none (exceeded_by (map entry_of functions)) ≡ false
+  pub past : is_none (exceeded_by (map read_of functions)) ≡ false
 
 -- these are the functions that were read so far
 abbrev pub AreReadSoFar : (lending : Bool) → ReadFunctions → List Function → Type 0
@@ -42,7 +42,7 @@ AreSound arch (Past count) = Unit {0}
 
 -- each number is that of what the functions of an entry of a section share, while functions are held
 abbrev pub AreNumberedIn : Arch → (section : List ℕ) → CommonNumbers → ReadFunctions → Type 0
-AreNumberedIn arch section numbers (Within held) = AreNumbered arch section numbers held.sources.common
+AreNumberedIn arch section numbers (Within held) = AreNumbered arch section numbers held.descriptions.common
 AreNumberedIn arch section numbers (Past count) = Unit {0}
 
 -- these functions were read after those that were read before

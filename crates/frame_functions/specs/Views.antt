@@ -1,4 +1,4 @@
--- Inside the crate. What is seen of a section that is read.
+-- What is seen of a section that is read (LSB Core, "The .eh_frame section").
 use Rattle.std.specs.Prelude.{◌≡◌, ◌⊎◌, ℕ, List, [], map, Option, Some, None, Result, Ok}
 use Rattle.sf_bytes.specs.declared.field.Field.{Field}
 use Rattle.sf_bytes.specs.Rising.{AreApart}

@@ -10,15 +10,15 @@ ghost use Rattle.frame_functions.specs.declared.fault.AsmFault.TheVariants.{NoMe
 ghost use Rattle.frame_functions.specs.InitialRows.{AreInitial};
 ghost use Rattle.frame_functions.specs.Lent.{CanBeLent};
 ghost use Rattle.frame_functions.specs.Numbers.{AreNumbered, IsNumberOf};
-ghost use Rattle.frame_functions.specs.Sources.{common_of, common_view, function_by_span, if_left};
+ghost use Rattle.frame_functions.specs.Descriptions.{common_of, common_view, function_by_span, if_left};
 
 use crate::call_frame_section::CallFrameSection;
-use crate::entry::{Entry, Expressed};
+use crate::description::{CommonPart, DescriptionItem};
+use crate::descriptions::Descriptions;
 use crate::fault::AsmFault;
 use crate::initial_rows::{InitialInstructions, InitialRows};
 use crate::numbers::CommonNumbers;
-use crate::source::{CommonPart, SourceItem};
-use crate::sources::Sources;
+use crate::read_function::{Expressed, ReadFunction};
 use cfa_machine::{Columns, MachineFault};
 use eh_records::{Cie, Fde};
 use sf_model::{Arch, Span};
@@ -50,14 +50,14 @@ fn add_common<'a>(
     span: Span,
     initials: &mut InitialRows,
     numbers: &mut CommonNumbers,
-    sources: &mut Sources<'a>,
+    descriptions: &mut Descriptions<'a>,
 ) -> Result<u32, AsmFault>
     requires lent { CanBeLent section.now fde.now span initials.old }
-    requires numbered { AreNumbered section.now.arch section.now.bytes.now numbers.old sources.old.common }
+    requires numbered { AreNumbered section.now.arch section.now.bytes.now numbers.old descriptions.old.common }
     ensures initials { OnOk result (AreInitial section.now.arch section.now.bytes.now initials.new) }
-    ensures numbered { OnOk result (AreNumbered section.now.arch section.now.bytes.now numbers.new sources.new.common) }
-    ensures number { IfOk result (IsNumberOf sources.new.common (Some (common_of section.now.arch (cie_view fde.now.cie)))) }
-    ensures functions { OnOk result (sources.new.functions ≡ sources.old.functions) }
+    ensures numbered { OnOk result (AreNumbered section.now.arch section.now.bytes.now numbers.new descriptions.new.common) }
+    ensures number { IfOk result (IsNumberOf descriptions.new.common (Some (common_of section.now.arch (cie_view fde.now.cie)))) }
+    ensures functions { OnOk result (descriptions.new.functions ≡ descriptions.old.functions) }
     ensures refused { IfErr result (λ fault. fault ≡ NoMemory) }
 {
     let cie = &fde.cie;
@@ -66,7 +66,7 @@ fn add_common<'a>(
         Err(MachineFault::NoMemory) => return Err(AsmFault::NoMemory),
         Err(_) => unreachable!(),
     }
-    let number = sources.add_common(common_part(section.arch, cie, *initials.row()))?;
+    let number = descriptions.add_common(common_part(section.arch, cie, *initials.row()))?;
     numbers.insert(cie.place, number)?;
     Ok(number)
 }
@@ -79,41 +79,41 @@ fn common_number<'a>(
     span: Span,
     initials: &mut InitialRows,
     numbers: &mut CommonNumbers,
-    sources: &mut Sources<'a>,
+    descriptions: &mut Descriptions<'a>,
 ) -> Result<u32, AsmFault>
     requires lent { CanBeLent section.now fde.now span initials.old }
-    requires numbered { AreNumbered section.now.arch section.now.bytes.now numbers.old sources.old.common }
+    requires numbered { AreNumbered section.now.arch section.now.bytes.now numbers.old descriptions.old.common }
     ensures initials { OnOk result (AreInitial section.now.arch section.now.bytes.now initials.new) }
-    ensures numbered { OnOk result (AreNumbered section.now.arch section.now.bytes.now numbers.new sources.new.common) }
-    ensures number { IfOk result (IsNumberOf sources.new.common (Some (common_of section.now.arch (cie_view fde.now.cie)))) }
-    ensures functions { OnOk result (sources.new.functions ≡ sources.old.functions) }
+    ensures numbered { OnOk result (AreNumbered section.now.arch section.now.bytes.now numbers.new descriptions.new.common) }
+    ensures number { IfOk result (IsNumberOf descriptions.new.common (Some (common_of section.now.arch (cie_view fde.now.cie)))) }
+    ensures functions { OnOk result (descriptions.new.functions ≡ descriptions.old.functions) }
     ensures refused { IfErr result (λ fault. fault ≡ NoMemory) }
 {
     match numbers.get(fde.cie.place) {
         Some(number) => Ok(number),
-        None => add_common(section, fde, span, initials, numbers, sources),
+        None => add_common(section, fde, span, initials, numbers, descriptions),
     }
 }
 
 /// Lends a function as its records describe it, each of whose instructions was run.
 #[inline(always)]
-fn lend_source<'a>(
+fn lend_description<'a>(
     section: &CallFrameSection<'a>,
     fde: &Fde<'a>,
     span: Span,
     initials: &mut InitialRows,
     numbers: &mut CommonNumbers,
-    sources: &mut Sources<'a>,
+    descriptions: &mut Descriptions<'a>,
 ) -> Result<(), AsmFault>
     requires lent { CanBeLent section.now fde.now span initials.old }
-    requires numbered { AreNumbered section.now.arch section.now.bytes.now numbers.old sources.old.common }
+    requires numbered { AreNumbered section.now.arch section.now.bytes.now numbers.old descriptions.old.common }
     ensures initials { OnOk result (AreInitial section.now.arch section.now.bytes.now initials.new) }
-    ensures numbered { OnOk result (AreNumbered section.now.arch section.now.bytes.now numbers.new sources.new.common) }
-    ensures lent { OnOk result (sources.new.functions ≡ sources.old.functions ++ function_by_span section.now.arch fde.now span ∷ []) }
+    ensures numbered { OnOk result (AreNumbered section.now.arch section.now.bytes.now numbers.new descriptions.new.common) }
+    ensures lent { OnOk result (descriptions.new.functions ≡ descriptions.old.functions ++ function_by_span section.now.arch fde.now span ∷ []) }
     ensures refused { IfErr result (λ fault. fault ≡ NoMemory) }
 {
-    let common = common_number(section, fde, span, initials, numbers, sources)?;
-    sources.push(SourceItem {
+    let common = common_number(section, fde, span, initials, numbers, descriptions)?;
+    descriptions.push(DescriptionItem {
         start: span.start,
         size: span.size,
         own: fde.insns,
@@ -128,24 +128,24 @@ fn lend_source<'a>(
 pub fn lend<'a>(
     section: &CallFrameSection<'a>,
     fde: &Fde<'a>,
-    entry: &Entry,
+    entry: &ReadFunction,
     lending: bool,
     initials: &mut InitialRows,
     numbers: &mut CommonNumbers,
-    sources: &mut Sources<'a>,
+    descriptions: &mut Descriptions<'a>,
 ) -> Result<(), AsmFault>
     requires lent { CanBeLent section.now fde.now entry.now.span initials.old }
-    requires numbered { AreNumbered section.now.arch section.now.bytes.now numbers.old sources.old.common }
+    requires numbered { AreNumbered section.now.arch section.now.bytes.now numbers.old descriptions.old.common }
     ensures initials { OnOk result (AreInitial section.now.arch section.now.bytes.now initials.new) }
-    ensures numbered { OnOk result (AreNumbered section.now.arch section.now.bytes.now numbers.new sources.new.common) }
-    ensures lent { OnOk result (IsTrue lending → sources.new.functions ≡ sources.old.functions ++ if_left entry.now.outcome (function_by_span section.now.arch fde.now entry.now.span)) }
+    ensures numbered { OnOk result (AreNumbered section.now.arch section.now.bytes.now numbers.new descriptions.new.common) }
+    ensures lent { OnOk result (IsTrue lending → descriptions.new.functions ≡ descriptions.old.functions ++ if_left entry.now.outcome (function_by_span section.now.arch fde.now entry.now.span)) }
     ensures refused { IfErr result (λ fault. fault ≡ NoMemory) }
 {
     if !lending {
         return Ok(());
     }
     if let Expressed::LeftOut(_) = entry.outcome {
-        lend_source(section, fde, entry.span, initials, numbers, sources)?;
+        lend_description(section, fde, entry.span, initials, numbers, descriptions)?;
     }
     Ok(())
 }

@@ -5,7 +5,7 @@ ghost use Rattle.std.specs.Option.{option_map};
 ghost use Rattle.sf_model.specs.declared.machine.Arch.{Arch as machine};
 ghost use Rattle.eh_records.specs.Named.{standing_cie};
 ghost use Rattle.frame_functions.specs.Numbers.{AreNumbered, IsNumberOf, common_number_at};
-ghost use Rattle.frame_functions.specs.Sources.{Common as common, common_of};
+ghost use Rattle.frame_functions.specs.Descriptions.{Common as common, common_of};
 
 use std::alloc::{AllocError, Global};
 use std::collections::BTreeMap;

@@ -2,15 +2,15 @@
 
 ghost use Rattle.std.specs.Prelude.{◌≡◌, ◌≤◌, ◌<◌, ◌+◌, ◌^◌, ◌&&◌, ◌++◌, [], ◌∷◌, List, Bool, IfOk, IfErr, OnOk, length, map, min, nat_le, nat_lt, Some};
 ghost use Rattle.frame_functions.specs.declared.read.ReadFunctions.TheVariants.{Within, Past};
-ghost use Rattle.frame_functions.specs.Entry.{IsSound};
+ghost use Rattle.frame_functions.specs.ReadFunction.{IsSound};
 ghost use Rattle.frame_functions.specs.Functions.{Function};
-ghost use Rattle.frame_functions.specs.Kept.{entry_of};
-ghost use Rattle.frame_functions.specs.Order.{entry_rows, exceeded_by};
+ghost use Rattle.frame_functions.specs.Kept.{read_of};
+ghost use Rattle.frame_functions.specs.Order.{read_rows, exceeded_by};
 ghost use Rattle.frame_functions.specs.ReadSoFar.{AreReadSoFar, counted_in};
 
-use crate::entries::Entries;
-use crate::entry::Entry;
-use crate::sources::Sources;
+use crate::descriptions::Descriptions;
+use crate::function_list::FunctionList;
+use crate::read_function::ReadFunction;
 use sf_functions::{Limit, MOST_FUNCTIONS, MOST_ROWS};
 use sf_model::Arch;
 use sf_write::PackedRows;
@@ -20,11 +20,11 @@ use std::alloc::{AllocError, Global};
 #[derive(Drop)]
 pub struct HeldFunctions<'a> {
     /// The functions, in the order of the inputs, sections and records.
-    pub entries: Entries,
+    pub entries: FunctionList,
     /// How many rows more there may be.
     pub rows_left: usize,
     /// The omitted ones as their records describe them, in the same order, if they are to be lent.
-    pub sources: Sources<'a>,
+    pub descriptions: Descriptions<'a>,
 }
 
 /// The functions that were read. Past a limit they are only counted, and nothing of them is held. They are still read,
@@ -40,8 +40,8 @@ pub enum ReadFunctions<'a> {
 impl<'a> HeldFunctions<'a> {
     /// Returns whether the limits allow one function more, with its rows.
     #[inline(always)]
-    pub fn has_room(&self, entry: &Entry) -> bool
-        ensures { result ≡ (nat_lt (length self.now.entries) (2 ^ 21) && nat_le (entry_rows entry.now) self.now.rows_left) }
+    pub fn has_room(&self, entry: &ReadFunction) -> bool
+        ensures { result ≡ (nat_lt (length self.now.entries) (2 ^ 21) && nat_le (read_rows entry.now) self.now.rows_left) }
     {
         self.entries.len() < MOST_FUNCTIONS && entry.row_count() <= self.rows_left
     }
@@ -51,14 +51,14 @@ impl<'a> HeldFunctions<'a> {
     pub fn add(
         &mut self,
         arch: Arch,
-        entry: Entry,
+        entry: ReadFunction,
         spare: &mut PackedRows,
     ) -> Result<(), AllocError>
         requires sound { IsSound arch entry }
-        requires room { entry_rows entry ≤ self.old.rows_left }
+        requires room { read_rows entry ≤ self.old.rows_left }
         ensures entries { OnOk result (self.new.entries ≡ self.old.entries ++ entry ∷ []) }
-        ensures rows { OnOk result (self.new.rows_left + entry_rows entry ≡ self.old.rows_left) }
-        ensures sources { OnOk result (self.new.sources ≡ self.old.sources) }
+        ensures rows { OnOk result (self.new.rows_left + read_rows entry ≡ self.old.rows_left) }
+        ensures descriptions { OnOk result (self.new.descriptions ≡ self.old.descriptions) }
     {
         let count = entry.row_count();
         self.entries.push(arch, entry, spare)?;
@@ -73,9 +73,9 @@ impl<'a> ReadFunctions<'a> {
         ensures { (lending : Bool) → AreReadSoFar lending result [] }
     {
         ReadFunctions::Within(HeldFunctions {
-            entries: Entries::new(alloc),
+            entries: FunctionList::new(alloc),
             rows_left: MOST_ROWS,
-            sources: Sources::new(alloc),
+            descriptions: Descriptions::new(alloc),
         })
     }
 
@@ -103,7 +103,7 @@ impl<'a> ReadFunctions<'a> {
     /// The limit that they exceed, of functions first, and then of rows.
     pub fn within_limits(self) -> Result<HeldFunctions<'a>, Limit>
         ensures held { IfOk result (λ held. self.entry ≡ Within held) }
-        ensures fault { IfErr result (λ limit. (lending : Bool) (functions : List Function) → AreReadSoFar lending self.entry functions → exceeded_by (map entry_of functions) ≡ Some limit) }
+        ensures fault { IfErr result (λ limit. (lending : Bool) (functions : List Function) → AreReadSoFar lending self.entry functions → exceeded_by (map read_of functions) ≡ Some limit) }
     {
         match self {
             ReadFunctions::Within(held) => Ok(held),

@@ -21,27 +21,27 @@ ghost use Rattle.sf_model.specs.declared.function.Func.{Func as func_fact};
 ghost use Rattle.sf_write.specs.Packed.{CanBeUnpacked, IsPacked};
 ghost use Rattle.sf_express.specs.Run.{on_rows};
 ghost use Rattle.frame_functions.specs.Answers.{IsRecordsFault, IsRelocFault, IsRowsFault, ReadsOne};
-ghost use Rattle.frame_functions.specs.Entry.{IsSound};
+ghost use Rattle.frame_functions.specs.ReadFunction.{IsSound};
 ghost use Rattle.frame_functions.specs.Fault.{wraps_record, wraps_reloc, wraps_machine};
 ghost use Rattle.frame_functions.specs.declared.fault.AsmFault.TheVariants.{NoMemory, Record};
 ghost use Rattle.sf_bytes.specs.Steps.{named};
 ghost use Rattle.frame_functions.specs.Functions.{function_in, functions_in, section_functions, span_in};
 ghost use Rattle.frame_functions.specs.InitialRows.{AreInitial};
 ghost use Rattle.frame_functions.specs.Lent.{CanBeLent};
-ghost use Rattle.frame_functions.specs.Kept.{entry_of, outcome_by};
+ghost use Rattle.frame_functions.specs.Kept.{read_of, outcome_by};
 ghost use Rattle.frame_functions.specs.ReadSoFar.{AreNumberedIn, AreSound, ReadsFunctions, ReadsMore};
 ghost use Rattle.frame_functions.specs.Relocated.{pointer_check};
-ghost use Rattle.frame_functions.specs.Sources.{function_by_span};
+ghost use Rattle.frame_functions.specs.Descriptions.{function_by_span};
 ghost use Rattle.frame_functions.specs.Views.{AreChecked, IsReadFrom, overlaid, relocations_by, seen_section, written_by};
 
 use crate::call_frame_section::CallFrameSection;
-use crate::entry::{Entry, Expressed};
 use crate::fault::AsmFault;
 use crate::initial_rows::{InitialInstructions, InitialRows};
 use crate::lent::lend;
 use crate::numbers::CommonNumbers;
 use crate::overlay::Overlay;
 use crate::read::ReadFunctions;
+use crate::read_function::{Expressed, ReadFunction};
 use cfa_machine::{MachineFault, Runner};
 use eh_records::{Fde, RecordFault, Records};
 use elf_place::Placed;
@@ -230,7 +230,7 @@ fn read_function<'a>(
     initials: &mut InitialRows,
     run: &mut Runner<'a>,
     spare: &mut PackedRows,
-) -> Result<Entry, AsmFault>
+) -> Result<ReadFunction, AsmFault>
     requires key { IsTrue (key_fits section.now.arch fde.now.cie.key) }
     requires initials { AreInitial section.now.arch section.now.bytes.now initials.old }
     requires named { HasNamed section.now.arch section.now.bytes.now (fde_view fde.now) }
@@ -255,7 +255,7 @@ fn read_function<'a>(
         size,
         origin,
     };
-    Ok(Entry { span, outcome })
+    Ok(ReadFunction { span, outcome })
 }
 
 /// Adds a function to those that were read. Past a limit it is only counted.
@@ -263,7 +263,7 @@ fn read_function<'a>(
 fn add_function<'a>(
     section: &CallFrameSection<'a>,
     fde: &Fde<'a>,
-    entry: Entry,
+    entry: ReadFunction,
     lending: bool,
     initials: &mut InitialRows,
     numbers: &mut CommonNumbers,
@@ -272,7 +272,7 @@ fn add_function<'a>(
 ) -> Result<(), AsmFault>
     requires lent { CanBeLent section.now fde.now entry.span initials.old }
     requires sound { IsSound section.now.arch entry }
-    requires function { entry_of (function_by_span section.now.arch fde.now entry.span) ≡ entry }
+    requires function { read_of (function_by_span section.now.arch fde.now entry.span) ≡ entry }
     requires numbered { AreNumberedIn section.now.arch section.now.bytes.now numbers.old read.old }
     ensures initials { OnOk result (AreInitial section.now.arch section.now.bytes.now initials.new) }
     ensures numbered { OnOk result (AreNumberedIn section.now.arch section.now.bytes.now numbers.new read.new) }
@@ -289,7 +289,7 @@ fn add_function<'a>(
                 lending,
                 initials,
                 numbers,
-                &mut held.sources,
+                &mut held.descriptions,
             )?;
             held.add(section.arch, entry, spare)?;
             return Ok(());

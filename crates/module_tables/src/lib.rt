@@ -1,7 +1,7 @@
 //! The table of one file of a process: what SFrame expresses of its functions at the address at which the file was mapped,
 //! and the signal frames of the others (LSB Core, "The .eh_frame section"; GNU SFrame specification, Version 2).
 //!
-//! [`module_table`] links one ELF file as `sf_plt::link_plt_with_sources` does, and lists the signal frames of the functions
+//! [`module_table`] links one ELF file as `sf_plt::link_plt_with_descriptions` does, and lists the signal frames of the functions
 //! that SFrame can't express, by rising start. `IsModuleTable` of `specs/Table.antt` says what it returns: the section of
 //! `IsPltLinked`, and a signal frame of `IsSignalFrame` for each omitted function that has one, and for no other. A file
 //! without call frame information has a section without functions, and no signal frames. There is one such list: `one_signals`

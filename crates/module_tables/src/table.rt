@@ -12,7 +12,7 @@ use crate::signals::signals_of;
 use sf_asm::{Input, InputBytes, LinkFault};
 use sf_base::NoMemory;
 use sf_lookup::Span;
-use sf_plt::link_plt_with_sources;
+use sf_plt::link_plt_with_descriptions;
 use signal_frames::SignalFrame;
 use std::alloc::Global;
 
@@ -50,8 +50,8 @@ pub fn module_table(
     ensures answered { IfErr result (λ fault. IsTrue (is_answered fault)) }
 {
     let input = Input { bytes: file, base };
-    let made = link_plt_with_sources(alloc, &[input], at, None)?;
-    match signals_of(alloc, &made.sources) {
+    let made = link_plt_with_descriptions(alloc, &[input], at, None)?;
+    match signals_of(alloc, &made.descriptions) {
         Ok(signals) => Ok(ModuleTable {
             section: made.linked.section,
             signals,

@@ -23,36 +23,36 @@ use Rattle.sf_express.specs.Runs.{omission_of, rows_of, expressed, unless_omitte
 use Rattle.sf_express.proofs.Found.{SaysContent, row_said}
 use Rattle.sf_express.proofs.Alike.{recovers_alike}
 use Rattle.sf_express.proofs.Column.{own_column}
-use Rattle.frame_functions.specs.declared.entry.Entry.{Entry}
-use Rattle.frame_functions.specs.declared.entry.Expressed.{Expressed}
-use Rattle.frame_functions.specs.declared.entry.Expressed.TheVariants as outcome
-use Rattle.frame_functions.specs.Entry.{kept_in, kept_of, spans_of}
+use Rattle.frame_functions.specs.declared.read_function.ReadFunction.{ReadFunction}
+use Rattle.frame_functions.specs.declared.read_function.Expressed.{Expressed}
+use Rattle.frame_functions.specs.declared.read_function.Expressed.TheVariants as outcome
+use Rattle.frame_functions.specs.ReadFunction.{kept_in, kept_of, spans_of}
 use Rattle.frame_functions.specs.Functions.{Function, holds_address}
-use Rattle.frame_functions.specs.Kept.{full_row, says_of, facts_of, outcome_by, entry_of, is_kept, kept_functions}
+use Rattle.frame_functions.specs.Kept.{full_row, says_of, facts_of, outcome_by, read_of, is_kept, kept_functions}
 use Rattle.frame_functions.specs.Order.{InOrder, are_apart}
 use Rattle.sf_asm.specs.Linking.{overlap_in}
 use Rattle.sf_asm.specs.Faithful.{recovered_in, recovered_at}
 use Rattle.sf_model.proofs.Unions.{Member, OnePasses}
-use Rattle.sf_asm.proofs.Finding.{found_alike}
-use Rattle.sf_asm.proofs.Holding.{IsWithin, fine, one_within, within, within_span}
+use Rattle.sf_asm.proofs.OneFound.{found_alike}
+use Rattle.sf_asm.proofs.OneHolder.{IsWithin, fine, one_within, within, within_span}
 use Rattle.sf_asm.proofs.Kept.{not_overlapping_apart}
 
 -- ---- the kept function at an address, among the functions
 abbrev pub expressed_of : Function → Func
 expressed_of f = expressed (facts_of f) (says_of f)
 
-pub find_kept : (pc : ℕ) (fs : List Function) → find (contains pc) (kept_of (map entry_of fs)) ≡ option_map expressed_of (find (holds_address pc) (kept_functions fs))
+pub find_kept : (pc : ℕ) (fs : List Function) → find (contains pc) (kept_of (map read_of fs)) ≡ option_map expressed_of (find (holds_address pc) (kept_functions fs))
 unfolding function_of
 find_kept pc [] = refl
 find_kept pc (f ∷ fs) = at_omission (omission_of f.arch (facts_of f) (says_of f)) refl (find_kept pc fs)
   where
-    at_address : (b : Bool) → holds_address pc f ≡ b → find (contains pc) (kept_of (map entry_of fs)) ≡ option_map expressed_of (find (holds_address pc) (kept_functions fs))
-        → find (contains pc) (expressed_of f ∷ kept_of (map entry_of fs)) ≡ option_map expressed_of (find (holds_address pc) (f ∷ kept_functions fs))
+    at_address : (b : Bool) → holds_address pc f ≡ b → find (contains pc) (kept_of (map read_of fs)) ≡ option_map expressed_of (find (holds_address pc) (kept_functions fs))
+        → find (contains pc) (expressed_of f ∷ kept_of (map read_of fs)) ≡ option_map expressed_of (find (holds_address pc) (f ∷ kept_functions fs))
     at_address true t others = rw t refl
     at_address false t others = rw t others
 
-    at_omission : (omission : Option Omission) → omission_of f.arch (facts_of f) (says_of f) ≡ omission → find (contains pc) (kept_of (map entry_of fs)) ≡ option_map expressed_of (find (holds_address pc) (kept_functions fs))
-        → find (contains pc) (kept_of (map entry_of (f ∷ fs))) ≡ option_map expressed_of (find (holds_address pc) (kept_functions (f ∷ fs)))
+    at_omission : (omission : Option Omission) → omission_of f.arch (facts_of f) (says_of f) ≡ omission → find (contains pc) (kept_of (map read_of fs)) ≡ option_map expressed_of (find (holds_address pc) (kept_functions fs))
+        → find (contains pc) (kept_of (map read_of (f ∷ fs))) ≡ option_map expressed_of (find (holds_address pc) (kept_functions (f ∷ fs)))
     at_omission None e others = rw e (at_address (holds_address pc f) refl others)
     at_omission (Some omission) e others = rw e others
 
@@ -61,14 +61,14 @@ abbrev kept_there : (pc : ℕ) → Expressed → Bool
 kept_there pc (outcome.Kept f) = contains pc f
 kept_there pc (outcome.LeftOut omission) = false
 
-abbrev is_there : (pc : ℕ) → Entry → Bool
+abbrev is_there : (pc : ℕ) → ReadFunction → Bool
 is_there pc e = kept_there pc e.outcome
 
-abbrev function_in_found : Option Entry → Option Func
+abbrev function_in_found : Option ReadFunction → Option Func
 function_in_found None = None
 function_in_found (Some e) = kept_in e.outcome
 
-find_entry : (pc : ℕ) (es : List Entry) → find (contains pc) (kept_of es) ≡ function_in_found (find (is_there pc) es)
+find_entry : (pc : ℕ) (es : List ReadFunction) → find (contains pc) (kept_of es) ≡ function_in_found (find (is_there pc) es)
 find_entry pc [] = refl
 find_entry pc (e ∷ es) = at_outcome e.outcome refl (find_entry pc es)
   where
@@ -90,14 +90,14 @@ abbrev HasSpan : Expressed → (start size : ℕ) → Type 0
 HasSpan (outcome.Kept f) start size = (f.start ≡ start) × (f.size ≡ size)
 HasSpan (outcome.LeftOut omission) start size = Unit {0}
 
-abbrev IsSpanned : Entry → Type 0
+abbrev IsSpanned : ReadFunction → Type 0
 IsSpanned e = HasSpan e.outcome e.span.start e.span.size
 
 outcome_spanned : (f : Function) (omission : Option Omission) → HasSpan (outcome_by (unless_omitted omission (expressed_of f))) f.start f.size
 outcome_spanned f None = (refl, refl)
 outcome_spanned f (Some omission) = tt
 
-all_spanned : (fs : List Function) → AllByRecursion IsSpanned (map entry_of fs)
+all_spanned : (fs : List Function) → AllByRecursion IsSpanned (map read_of fs)
 unfolding function_of
 all_spanned [] = tt
 all_spanned (f ∷ fs) = (outcome_spanned f (omission_of f.arch (facts_of f) (says_of f)), all_spanned fs)
@@ -106,23 +106,23 @@ there_within : (pc : ℕ) (o : Expressed) (start size : ℕ) → HasSpan o start
 there_within pc (outcome.Kept f) start size h t = rw (sym h.0, sym h.1) (within_span pc f.start f.size t)
 there_within pc (outcome.LeftOut omission) start size h t = cc
 
-spanned_there : (es : List Entry) → AllByRecursion IsSpanned es → (e : Entry) → Member es e → IsSpanned e
+spanned_there : (es : List ReadFunction) → AllByRecursion IsSpanned es → (e : ReadFunction) → Member es e → IsSpanned e
 spanned_there [] h e m = absurd m
 spanned_there (d ∷ es) h e (inl is) = subst IsSpanned is h.0
 spanned_there (d ∷ es) h e (inr m) = spanned_there es h.1 e m
 
-one_is_there : (pc : ℕ) (es : List Entry) → AllByRecursion IsSpanned es → are_apart 0 es ≡ true → OnePasses (is_there pc) es
+one_is_there : (pc : ℕ) (es : List ReadFunction) → AllByRecursion IsSpanned es → are_apart 0 es ≡ true → OnePasses (is_there pc) es
 one_is_there pc es spanned h =
-    one_within (λ (e : Entry). e) (is_there pc) pc 0 es (λ e m t. there_within pc e.outcome e.span.start e.span.size (spanned_there es spanned e m) t)
-    (subst (λ (all : List Entry). are_apart 0 all ≡ true) (sym (map-id es)) h)
+    one_within (λ (e : ReadFunction). e) (is_there pc) pc 0 es (λ e m t. there_within pc e.outcome e.span.start e.span.size (spanned_there es spanned e m) t)
+    (subst (λ (all : List ReadFunction). are_apart 0 all ≡ true) (sym (map-id es)) h)
 
 -- the kept function at an address, among functions in order
-find_in_order : (pc : ℕ) (fs : List Function) (ordered : List Entry) → InOrder (map entry_of fs) ordered → overlap_in (spans_of ordered) ≡ None
+find_in_order : (pc : ℕ) (fs : List Function) (ordered : List ReadFunction) → InOrder (map read_of fs) ordered → overlap_in (spans_of ordered) ≡ None
     → find (contains pc) (kept_of ordered) ≡ option_map expressed_of (find (holds_address pc) (kept_functions fs))
 find_in_order pc fs ordered order apart =
-    let spanned = All-permutation IsSpanned (map entry_of fs) ordered order.moved (All-from_recursion IsSpanned (map entry_of fs) (all_spanned fs)) in
+    let spanned = All-permutation IsSpanned (map read_of fs) ordered order.moved (All-from_recursion IsSpanned (map read_of fs) (all_spanned fs)) in
     let one = one_is_there pc ordered (recursion_from_All IsSpanned ordered spanned) (not_overlapping_apart ordered apart) in
-    find_entry pc ordered ∙ sym (ap function_in_found (found_alike (is_there pc) (map entry_of fs) ordered order.moved one)) ∙ sym (find_entry pc (map entry_of fs)) ∙ find_kept pc fs
+    find_entry pc ordered ∙ sym (ap function_in_found (found_alike (is_there pc) (map read_of fs) ordered order.moved one)) ∙ sym (find_entry pc (map read_of fs)) ∙ find_kept pc fs
 
 -- ---- one function
 -- what a row that is found recovers
@@ -164,7 +164,7 @@ at_found : (found : Option Function) (pc : ℕ) (regs : Regs) (memory : List Reg
 at_found None pc regs memory h = refl
 at_found (Some f) pc regs memory h = let passes = h f refl in function_recovers f pc regs memory passes.1 passes.0
 
-pub recovers_by_dwarf : (fs : List Function) (ordered : List Entry) → InOrder (map entry_of fs) ordered → overlap_in (spans_of ordered) ≡ None → (pc : ℕ) (regs : Regs) (memory : List Region)
+pub recovers_by_dwarf : (fs : List Function) (ordered : List ReadFunction) → InOrder (map read_of fs) ordered → overlap_in (spans_of ordered) ≡ None → (pc : ℕ) (regs : Regs) (memory : List Region)
     → option_map defined (recover_by_rows (kept_of ordered) memory pc regs) ≡ recovered_at fs memory pc regs
 unfolding recover_by_rows recovered_at found_at
 recovers_by_dwarf fs ordered order apart pc regs memory =

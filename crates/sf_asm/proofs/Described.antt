@@ -20,7 +20,7 @@ use Rattle.frame_functions.specs.Functions.{Function, by_instructions, function_
 use Rattle.sf_asm.specs.Functions.{◌>>=◌, Object, functions_after, functions_of, machine_of, named, seen_behind}
 use Rattle.sf_asm.specs.Inputs.{all_functions, first_item}
 use Rattle.sf_asm.specs.Linking.{Gathers, GathersFrom, Links, LinksFrom}
-use Rattle.frame_functions.specs.declared.entry.Entry.{Entry}
+use Rattle.frame_functions.specs.declared.read_function.ReadFunction.{ReadFunction}
 use Rattle.sf_asm.specs.declared.fault.LinkFault.{LinkFault}
 use Rattle.frame_functions.specs.Relocated.{Values, on_pointers, patched_values}
 use Rattle.sf_asm.specs.Sections.{SectionsAre, elf_sections, files_in, sections_by, seen_by}
@@ -201,14 +201,14 @@ together before objects r h = ap (of_one_machine before objects) (described (fir
 pub are_together : (before : Option Arch) (objects : List Object) → DescribeTogether before objects (all_functions before objects)
 are_together before objects = (functions_of (first_item before) objects, describe (first_item before) objects (functions_of (first_item before) objects) refl, refl)
 
-pub from_gathers : (before : Option Arch) (objects : List Object) (r : Result (List Entry) GatherFault) → Gathers before objects r → GathersFrom (all_functions before objects) r
+pub from_gathers : (before : Option Arch) (objects : List Object) (r : Result (List ReadFunction) GatherFault) → Gathers before objects r → GathersFrom (all_functions before objects) r
 from_gathers before objects r h = subst (λ (given : Result (List Function) GatherFault). GathersFrom given r) (sym (together before objects h.given h.described)) h.comes
 
-pub to_gathers : (before : Option Arch) (objects : List Object) (r : Result (List Entry) GatherFault) → GathersFrom (all_functions before objects) r → Gathers before objects r
+pub to_gathers : (before : Option Arch) (objects : List Object) (r : Result (List ReadFunction) GatherFault) → GathersFrom (all_functions before objects) r → Gathers before objects r
 to_gathers before objects r h = record { given = all_functions before objects; described = are_together before objects; comes = h }
 
-pub from_links : (before : Option Arch) (objects : List Object) (at : ℕ) (r : Result (List Entry) LinkFault) → Links before objects at r → LinksFrom at (all_functions before objects) r
+pub from_links : (before : Option Arch) (objects : List Object) (at : ℕ) (r : Result (List ReadFunction) LinkFault) → Links before objects at r → LinksFrom at (all_functions before objects) r
 from_links before objects at r h = subst (λ (given : Result (List Function) GatherFault). LinksFrom at given r) (sym (together before objects h.given h.described)) h.comes
 
-pub to_links : (before : Option Arch) (objects : List Object) (at : ℕ) (r : Result (List Entry) LinkFault) → LinksFrom at (all_functions before objects) r → Links before objects at r
+pub to_links : (before : Option Arch) (objects : List Object) (at : ℕ) (r : Result (List ReadFunction) LinkFault) → LinksFrom at (all_functions before objects) r → Links before objects at r
 to_links before objects at r h = record { given = all_functions before objects; described = are_together before objects; comes = h }

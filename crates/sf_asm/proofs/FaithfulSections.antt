@@ -11,18 +11,18 @@ use Rattle.sf_write.specs.declared.fault.WriteFault.{WriteFault}
 use Rattle.sf_write.specs.declared.fault.WriteFault.TheVariants.{OutOfReach}
 use Rattle.sf_write.specs.Reach.{Refuses, first_out_of_reach}
 use Rattle.sf_write.specs.Section.{table_of}
-use Rattle.frame_functions.specs.declared.entry.Entry.{Entry}
+use Rattle.frame_functions.specs.declared.read_function.ReadFunction.{ReadFunction}
 use Rattle.sf_asm.specs.declared.fault.GatherFault.{GatherFault}
 use Rattle.sf_asm.specs.declared.fault.GatherFault.TheVariants as gather
 use Rattle.sf_asm.specs.declared.fault.LinkFault.TheVariants as link
 use Rattle.sf_asm.specs.Answers.{IsFirstGathered, IsFirstLinked, IsLinked}
 use Rattle.sf_asm.specs.Fault.{wraps_gathering}
-use Rattle.frame_functions.specs.Entry.{kept_of, omitted_of, spans_of}
+use Rattle.frame_functions.specs.ReadFunction.{kept_of, omitted_of, spans_of}
 use Rattle.sf_asm.specs.Faithful.{Faithful}
 use Rattle.frame_functions.specs.Functions.{Function}
 use Rattle.sf_asm.specs.Functions.{Object}
 use Rattle.sf_asm.specs.Inputs.{HaveMachine, all_functions, first_item}
-use Rattle.frame_functions.specs.Kept.{entry_of}
+use Rattle.frame_functions.specs.Kept.{read_of}
 use Rattle.frame_functions.specs.Order.{InOrder}
 use Rattle.sf_asm.specs.Linking.{overlap_fault, overlap_in, limits_fault, functions_fault, link_fault, or_later, unless_fault, Gathers, GathersFrom, Links, LinksFrom}
 use Rattle.sf_asm.proofs.Agreeing.{recovers_by_dwarf}
@@ -36,7 +36,7 @@ apart_from None None e = refl
 apart_from None (Some pair) e = cc
 apart_from (Some fault) pair e = cc
 
-pub faithful : (section : List ℕ) (at : ℕ) (arch : Arch) (functions : List Function) (ordered : List Entry) → InOrder (map entry_of functions) ordered → functions_fault ordered ≡ None → Section section at (table_of arch (kept_of ordered))
+pub faithful : (section : List ℕ) (at : ℕ) (arch : Arch) (functions : List Function) (ordered : List ReadFunction) → InOrder (map read_of functions) ordered → functions_fault ordered ≡ None → Section section at (table_of arch (kept_of ordered))
     → Faithful section at arch functions
 faithful section at arch functions ordered order checked is =
     let apart = apart_from (limits_fault ordered) (overlap_in (spans_of ordered)) checked in
@@ -48,11 +48,11 @@ faithful section at arch functions ordered order checked is =
       walks = walks_by_dwarf functions ordered order apart;
     }
 
-reached : (at : ℕ) (ordered : List Entry) → functions_fault ordered ≡ None → first_out_of_reach at 0 (kept_of ordered) ≡ None → link_fault at ordered ≡ None
+reached : (at : ℕ) (ordered : List ReadFunction) → functions_fault ordered ≡ None → first_out_of_reach at 0 (kept_of ordered) ≡ None → link_fault at ordered ≡ None
 reached at ordered checked near =
     ap (λ (fault : Option GatherFault). or_later (option_map link.Gather fault) (option_map link.OutOfReach (first_out_of_reach at 0 (kept_of ordered)))) checked ∙ ap (option_map link.OutOfReach) near
 
-pub linked : (before : Option Arch) (objects : List Object) (at : ℕ) (section : List ℕ) (kept : ℕ) (arch : Arch) (functions : List Func) (omitted : List Omitted) (ordered : List Entry) → Gathers before objects (Ok ordered) → HaveMachine before objects arch
+pub linked : (before : Option Arch) (objects : List Object) (at : ℕ) (section : List ℕ) (kept : ℕ) (arch : Arch) (functions : List Func) (omitted : List Omitted) (ordered : List ReadFunction) → Gathers before objects (Ok ordered) → HaveMachine before objects arch
     → functions ≡ kept_of ordered → omitted ≡ omitted_of ordered → Section section at (table_of arch functions) → Tight section at (table_of arch functions) → Narrow section (table_of arch functions)
     → first_out_of_reach at 0 functions ≡ None → kept ≡ length functions → IsLinked before objects at section kept omitted
 linked before objects at section kept arch functions omitted ordered h machine kept_are omitted_are is tight narrow near count =
@@ -86,10 +86,10 @@ gathered_refused objects at (Err other) fault is = ap (λ (x : GatherFault). Err
 pub not_gathered : (before : Option Arch) (objects : List Object) (at : ℕ) (fault : GatherFault) → Gathers before objects (Err fault) → Links before objects at (Err (link.Gather fault))
 not_gathered before objects at fault h = to_links before objects at (Err (link.Gather fault)) (gathered_refused objects at (all_functions before objects) fault (from_gathers before objects (Err fault) h))
 
-out_of_reach : (at : ℕ) (given : Result (List Function) GatherFault) (ordered : List Entry) (start : ℕ) → first_out_of_reach at 0 (kept_of ordered) ≡ Some start → GathersFrom given (Ok ordered) → LinksFrom at given (Err (link.OutOfReach start))
+out_of_reach : (at : ℕ) (given : Result (List Function) GatherFault) (ordered : List ReadFunction) (start : ℕ) → first_out_of_reach at 0 (kept_of ordered) ≡ Some start → GathersFrom given (Ok ordered) → LinksFrom at given (Err (link.OutOfReach start))
 out_of_reach at (Ok functions) ordered start far (other, order, is) =
     let two = checked_is (functions_fault other) ordered other is in
-    let there : first_out_of_reach at 0 (kept_of other) ≡ Some start = subst (λ (es : List Entry). first_out_of_reach at 0 (kept_of es) ≡ Some start) (sym two.1) far in (
+    let there : first_out_of_reach at 0 (kept_of other) ≡ Some start = subst (λ (es : List ReadFunction). first_out_of_reach at 0 (kept_of es) ≡ Some start) (sym two.1) far in (
       other,
       order,
       sym (ap (λ (first : Option GatherFault). unless_fault (or_later (option_map link.Gather first) (option_map link.OutOfReach (first_out_of_reach at 0 (kept_of other)))) other) two.0
@@ -100,7 +100,7 @@ out_of_reach at (Err fault) ordered start far is = cc
 pub reach_refused : (fault : WriteFault) (start : ℕ) (far : Option ℕ) → fault ≡ OutOfReach start → Refuses fault far → far ≡ Some start
 reach_refused fault start far is h = subst (λ (f : WriteFault). Refuses f far) is h
 
-pub not_reached : (before : Option Arch) (objects : List Object) (at : ℕ) (functions : List Func) (ordered : List Entry) (start : ℕ) → Gathers before objects (Ok ordered) → functions ≡ kept_of ordered → first_out_of_reach at 0 functions ≡ Some start
+pub not_reached : (before : Option Arch) (objects : List Object) (at : ℕ) (functions : List Func) (ordered : List ReadFunction) (start : ℕ) → Gathers before objects (Ok ordered) → functions ≡ kept_of ordered → first_out_of_reach at 0 functions ≡ Some start
     → Links before objects at (Err (link.OutOfReach start))
 not_reached before objects at functions ordered start h kept_are far =
     to_links before objects at (Err (link.OutOfReach start)) (out_of_reach at (all_functions before objects) ordered start (subst (λ (fs : List Func). first_out_of_reach at 0 fs ≡ Some start) kept_are far) (from_gathers before objects (Ok ordered) h))

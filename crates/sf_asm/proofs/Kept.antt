@@ -15,13 +15,13 @@ use Rattle.sf_model.specs.declared.omission.Omission.{Omission}
 use Rattle.sf_model.specs.declared.omission.Omitted.{Omitted}
 use Rattle.sf_model.specs.declared.omission.Span.{Span}
 use Rattle.sf_model.specs.Function.{IsWritable, AreWritable}
-use Rattle.frame_functions.specs.declared.entry.Entry.{Entry}
-use Rattle.frame_functions.specs.declared.entry.Expressed.{Expressed}
-use Rattle.frame_functions.specs.declared.entry.Expressed.TheVariants.{Kept, LeftOut}
-use Rattle.frame_functions.specs.Entry.{IsSound, IsSoundOutcome, kept_of, kept_in, omitted_of, omitted_in, spans_of}
+use Rattle.frame_functions.specs.declared.read_function.ReadFunction.{ReadFunction}
+use Rattle.frame_functions.specs.declared.read_function.Expressed.{Expressed}
+use Rattle.frame_functions.specs.declared.read_function.Expressed.TheVariants.{Kept, LeftOut}
+use Rattle.frame_functions.specs.ReadFunction.{IsSound, IsSoundOutcome, kept_of, kept_in, omitted_of, omitted_in, spans_of}
 use Rattle.sf_asm.specs.declared.fault.GatherFault.{GatherFault}
 use Rattle.sf_asm.specs.Linking.{functions_fault, limits_fault, or_later, overlap_after, overlap_fault, overlap_in, overlap_with}
-use Rattle.frame_functions.specs.Order.{are_apart, rows_of, entry_rows}
+use Rattle.frame_functions.specs.Order.{are_apart, rows_of, read_rows}
 use Rattle.sf_asm.proofs.Limits.{few_functions, few_rows}
 use Rattle.sf_asm.proofs.OverlapLaws.{overlap_begins, overlap_passes, overlap_goes_on, overlap_ends}
 
@@ -44,7 +44,7 @@ skip_test end start size true skipped h none = grind (arith, nat_tests)
 skip_test end start size false skipped h none = grind (arith, nat_tests)
 
 -- one function before others that are apart
-kept_from : (arch : Arch) (end : ℕ) (span : Span) (outcome : Expressed) (es : List Entry) → IsSoundOutcome arch span.start span.size outcome
+kept_from : (arch : Arch) (end : ℕ) (span : Span) (outcome : Expressed) (es : List ReadFunction) → IsSoundOutcome arch span.start span.size outcome
     → ((b : ℕ) → are_apart b es ≡ true → ApartFrom b (kept_of es))
     → are_apart end (record { span = span; outcome = outcome } ∷ es) ≡ true → ApartFrom end (kept_of (record { span = span; outcome = outcome } ∷ es))
 kept_from arch end span (Kept f) es one others h =
@@ -60,7 +60,7 @@ kept_from arch end span (LeftOut omission) es one others h =
       | inr none ↦ others end (skip_test end span.start span.size (are_apart (span.start + span.size) es) (are_apart end es) h (omega arith))
     ]
 
-kept_are_apart : (arch : Arch) (end : ℕ) (es : List Entry) → AllByRecursion (IsSound arch) es → are_apart end es ≡ true → ApartFrom end (kept_of es)
+kept_are_apart : (arch : Arch) (end : ℕ) (es : List ReadFunction) → AllByRecursion (IsSound arch) es → are_apart end es ≡ true → ApartFrom end (kept_of es)
 kept_are_apart arch end [] sound h = tt
 kept_are_apart arch end (e ∷ es) sound h = kept_from arch end e.span e.outcome es sound.0 (λ b t. kept_are_apart arch b es sound.1 t) h
 
@@ -84,7 +84,7 @@ ends_before (Some before) span e = at_test (nat_lt span.start (before.start + be
     at_test true t e = cc
     at_test false t e = ltb-false span.start (before.start + before.size) t
 
-no_overlap_apart : (before : Option Span) (es : List Entry) → overlap_after before (spans_of es) ≡ None → are_apart (end_of before) es ≡ true
+no_overlap_apart : (before : Option Span) (es : List ReadFunction) → overlap_after before (spans_of es) ≡ None → are_apart (end_of before) es ≡ true
 no_overlap_apart before [] h = refl
 no_overlap_apart before (e ∷ es) h = at_size (eqb e.span.size 0) refl (λ rest. no_overlap_apart before es rest) (λ rest. no_overlap_apart (Some e.span) es rest)
   where
@@ -96,7 +96,7 @@ no_overlap_apart before (e ∷ es) h = at_size (eqb e.span.size 0) refl (λ rest
         let rest = sym (overlap_goes_on before e.span (spans_of es) t fine) ∙ h in
         rw (t, le-leb (end_of before) e.span.start (ends_before before e.span fine)) (on rest)
 
-pub not_overlapping_apart : (es : List Entry) → overlap_in (spans_of es) ≡ None → are_apart 0 es ≡ true
+pub not_overlapping_apart : (es : List ReadFunction) → overlap_in (spans_of es) ≡ None → are_apart 0 es ≡ true
 not_overlapping_apart es h = no_overlap_apart None es (sym (overlap_begins (spans_of es)) ∙ h)
 
 -- by places
@@ -107,28 +107,28 @@ neighbours end (f ∷ []) k d h lt = absurd (omega arith)
 neighbours end (f ∷ g ∷ fs) zero d h lt = h.1.0
 neighbours end (f ∷ g ∷ fs) (suc k) d h lt = neighbours (f.start + f.size) (g ∷ fs) k d h.1 (omega arith)
 
-kept_one : (arch : Arch) (span : Span) (outcome : Expressed) (es : List Entry) → IsSoundOutcome arch span.start span.size outcome → AllByRecursion (IsWritable arch) (kept_of es)
+kept_one : (arch : Arch) (span : Span) (outcome : Expressed) (es : List ReadFunction) → IsSoundOutcome arch span.start span.size outcome → AllByRecursion (IsWritable arch) (kept_of es)
     → AllByRecursion (IsWritable arch) (kept_of (record { span = span; outcome = outcome } ∷ es))
 kept_one arch span (Kept f) es one others = (one.0, others)
 kept_one arch span (LeftOut omission) es one others = others
 
-kept_writable : (arch : Arch) (es : List Entry) → AllByRecursion (IsSound arch) es → AllByRecursion (IsWritable arch) (kept_of es)
+kept_writable : (arch : Arch) (es : List ReadFunction) → AllByRecursion (IsSound arch) es → AllByRecursion (IsWritable arch) (kept_of es)
 kept_writable arch [] sound = tt
 kept_writable arch (e ∷ es) sound = kept_one arch e.span e.outcome es sound.0 (kept_writable arch es sound.1)
 
 -- no more functions and rows than before
-count_one : (span : Span) (outcome : Expressed) (es : List Entry)
-    → length (kept_of es) ≤ length es → sum_by (λ (f : Func). length f.rows) (kept_of es) ≤ sum_by entry_rows es
+count_one : (span : Span) (outcome : Expressed) (es : List ReadFunction)
+    → length (kept_of es) ≤ length es → sum_by (λ (f : Func). length f.rows) (kept_of es) ≤ sum_by read_rows es
     → (length (kept_of (record { span = span; outcome = outcome } ∷ es)) ≤ suc (length es))
-    × (sum_by (λ (f : Func). length f.rows) (kept_of (record { span = span; outcome = outcome } ∷ es)) ≤ rows_of outcome + sum_by entry_rows es)
+    × (sum_by (λ (f : Func). length f.rows) (kept_of (record { span = span; outcome = outcome } ∷ es)) ≤ rows_of outcome + sum_by read_rows es)
 count_one span (Kept f) es few small = (omega arith, rw sum_by-cons (omega arith))
 count_one span (LeftOut omission) es few small = (omega arith, omega arith)
 
-kept_count : (es : List Entry) → (length (kept_of es) ≤ length es) × (sum_by (λ (f : Func). length f.rows) (kept_of es) ≤ sum_by entry_rows es)
+kept_count : (es : List ReadFunction) → (length (kept_of es) ≤ length es) × (sum_by (λ (f : Func). length f.rows) (kept_of es) ≤ sum_by read_rows es)
 kept_count [] = (omega arith, omega arith)
-kept_count (e ∷ es) = let more = kept_count es in let one = count_one e.span e.outcome es more.0 more.1 in (one.0, rw (sum_by-cons entry_rows e es) one.1)
+kept_count (e ∷ es) = let more = kept_count es in let one = count_one e.span e.outcome es more.0 more.1 in (one.0, rw (sum_by-cons read_rows e es) one.1)
 
-pub kept_AreWritable : (arch : Arch) (es : List Entry) → All (IsSound arch) es → are_apart 0 es ≡ true → length es ≤ 2 ^ 21 → sum_by entry_rows es ≤ 2 ^ 24
+pub kept_AreWritable : (arch : Arch) (es : List ReadFunction) → All (IsSound arch) es → are_apart 0 es ≡ true → length es ≤ 2 ^ 21 → sum_by read_rows es ≤ 2 ^ 24
     → AreWritable arch (kept_of es)
 kept_AreWritable arch es sound apart few small =
     let each = recursion_from_All (IsSound arch) es sound in
@@ -154,13 +154,13 @@ both_tests : (a b : Bool) → (a && b) ≡ true → (a ≡ true) × (b ≡ true)
 both_tests true b e = (refl, e)
 both_tests false b e = cc
 
-pub kept_of_checked : (arch : Arch) (es : List Entry) → All (IsSound arch) es → functions_fault es ≡ None → AreWritable arch (kept_of es)
+pub kept_of_checked : (arch : Arch) (es : List ReadFunction) → All (IsSound arch) es → functions_fault es ≡ None → AreWritable arch (kept_of es)
 kept_of_checked arch es sound h =
     let limits = none_first (limits_fault es) (option_map overlap_fault (overlap_in (spans_of es))) h in
     kept_AreWritable arch es sound (not_overlapping_apart es (none_mapped (overlap_in (spans_of es)) limits.1)) (few_functions es limits.0) (few_rows es limits.0)
 
 -- ---- some of them
-apart_earlier : (a b : ℕ) (es : List Entry) → a ≤ b → are_apart b es ≡ true → are_apart a es ≡ true
+apart_earlier : (a b : ℕ) (es : List ReadFunction) → a ≤ b → are_apart b es ≡ true → are_apart a es ≡ true
 apart_earlier a b [] le h = refl
 apart_earlier a b (e ∷ es) le h = at_size (eqb e.span.size 0) refl h (λ rest. apart_earlier a b es le rest)
   where
@@ -172,7 +172,7 @@ apart_earlier a b (e ∷ es) le h = at_size (eqb e.span.size 0) refl h (λ rest.
         let low = leb-true b e.span.start two.0 in
         rw (t, le-leb a e.span.start (omega (arith, low, le))) two.1
 
-apart_some : (p : Entry → Bool) (end : ℕ) (es : List Entry) → are_apart end es ≡ true → are_apart end (filter p es) ≡ true
+apart_some : (p : ReadFunction → Bool) (end : ℕ) (es : List ReadFunction) → are_apart end es ≡ true → are_apart end (filter p es) ≡ true
 apart_some p end [] h = refl
 apart_some p end (e ∷ es) h = at_size (eqb e.span.size 0) refl h (λ rest. apart_some p end es rest) (λ rest. apart_some p (e.span.start + e.span.size) es rest)
   where
@@ -192,13 +192,13 @@ apart_some p end (e ∷ es) h = at_size (eqb e.span.size 0) refl h (λ rest. apa
             let low = leb-true end e.span.start two.0 in
             rw s (apart_earlier end (e.span.start + e.span.size) (filter p es) (omega (arith, low)) (on two.1))
 
-fewer : (p : Entry → Bool) (es : List Entry) → (length (filter p es) ≤ length es) × (sum_by entry_rows (filter p es) ≤ sum_by entry_rows es)
+fewer : (p : ReadFunction → Bool) (es : List ReadFunction) → (length (filter p es) ≤ length es) × (sum_by read_rows (filter p es) ≤ sum_by read_rows es)
 fewer p es =
     let lengths = length-filter_both p (λ e. not (p e)) (λ e. refl) es in
-    let rows = sum_by-filter_both p (λ e. not (p e)) (λ e. refl) entry_rows es in
+    let rows = sum_by-filter_both p (λ e. not (p e)) (λ e. refl) read_rows es in
     (omega (arith, lengths), omega (arith, rows))
 
-pub some_kept_of_checked : (p : Entry → Bool) (arch : Arch) (es : List Entry) → All (IsSound arch) es → functions_fault es ≡ None → AreWritable arch (kept_of (filter p es))
+pub some_kept_of_checked : (p : ReadFunction → Bool) (arch : Arch) (es : List ReadFunction) → All (IsSound arch) es → functions_fault es ≡ None → AreWritable arch (kept_of (filter p es))
 some_kept_of_checked p arch es sound h =
     let limits = none_first (limits_fault es) (option_map overlap_fault (overlap_in (spans_of es))) h in
     let less = fewer p es in
@@ -208,23 +208,23 @@ some_kept_of_checked p arch es sound h =
     (apart_some p 0 es (not_overlapping_apart es (none_mapped (overlap_in (spans_of es)) limits.1))) (omega (arith, less.0, few)) (omega (arith, less.1, rows))
 
 -- one more function
-pub kept_of-kept : (es : List Entry) (e : Entry) (f : Func) → e.outcome ≡ Kept f → kept_of (es ++ e ∷ []) ≡ kept_of es ++ f ∷ []
+pub kept_of-kept : (es : List ReadFunction) (e : ReadFunction) (f : Func) → e.outcome ≡ Kept f → kept_of (es ++ e ∷ []) ≡ kept_of es ++ f ∷ []
 kept_of-kept es e f h =
-    filter_map-append (λ (x : Entry). kept_in x.outcome) es (e ∷ []) ∙ ap (λ (xs : List Func). kept_of es ++ xs) (rw h refl)
+    filter_map-append (λ (x : ReadFunction). kept_in x.outcome) es (e ∷ []) ∙ ap (λ (xs : List Func). kept_of es ++ xs) (rw h refl)
 
-pub kept_of-left : (es : List Entry) (e : Entry) (o : Omission) → e.outcome ≡ LeftOut o → kept_of (es ++ e ∷ []) ≡ kept_of es
+pub kept_of-left : (es : List ReadFunction) (e : ReadFunction) (o : Omission) → e.outcome ≡ LeftOut o → kept_of (es ++ e ∷ []) ≡ kept_of es
 kept_of-left es e o h =
-    filter_map-append (λ (x : Entry). kept_in x.outcome) es (e ∷ []) ∙ ap (λ (xs : List Func). kept_of es ++ xs) (rw h refl) ∙ append-nil (kept_of es)
+    filter_map-append (λ (x : ReadFunction). kept_in x.outcome) es (e ∷ []) ∙ ap (λ (xs : List Func). kept_of es ++ xs) (rw h refl) ∙ append-nil (kept_of es)
 
-pub omitted_of-kept : (es : List Entry) (e : Entry) (f : Func) → e.outcome ≡ Kept f → omitted_of (es ++ e ∷ []) ≡ omitted_of es
+pub omitted_of-kept : (es : List ReadFunction) (e : ReadFunction) (f : Func) → e.outcome ≡ Kept f → omitted_of (es ++ e ∷ []) ≡ omitted_of es
 omitted_of-kept es e f h =
-    filter_map-append (λ (x : Entry). omitted_in x.span x.outcome) es (e ∷ []) ∙ ap (λ (xs : List Omitted). omitted_of es ++ xs) (rw h refl) ∙ append-nil (omitted_of es)
+    filter_map-append (λ (x : ReadFunction). omitted_in x.span x.outcome) es (e ∷ []) ∙ ap (λ (xs : List Omitted). omitted_of es ++ xs) (rw h refl) ∙ append-nil (omitted_of es)
 
-pub omitted_of-left : (es : List Entry) (e : Entry) (o : Omission) → e.outcome ≡ LeftOut o
+pub omitted_of-left : (es : List ReadFunction) (e : ReadFunction) (o : Omission) → e.outcome ≡ LeftOut o
     → omitted_of (es ++ e ∷ []) ≡ omitted_of es ++ record { start = e.span.start; size = e.span.size; origin = e.span.origin; omission = o } ∷ []
 omitted_of-left es e o h =
-    filter_map-append (λ (x : Entry). omitted_in x.span x.outcome) es (e ∷ []) ∙ ap (λ (xs : List Omitted). omitted_of es ++ xs) (rw h refl)
+    filter_map-append (λ (x : ReadFunction). omitted_in x.span x.outcome) es (e ∷ []) ∙ ap (λ (xs : List Omitted). omitted_of es ++ xs) (rw h refl)
 
-pub spans_of-push : (es : List Entry) (e : Entry) → spans_of (es ++ e ∷ []) ≡ spans_of es ++ e.span ∷ []
+pub spans_of-push : (es : List ReadFunction) (e : ReadFunction) → spans_of (es ++ e ∷ []) ≡ spans_of es ++ e.span ∷ []
 spans_of-push [] e = refl
 spans_of-push (x ∷ es) e = ap (λ (xs : List Span). x.span ∷ xs) (spans_of-push es e)

@@ -2,13 +2,13 @@ pub mod Kept
 pub mod OverlapLaws
 pub mod ReadInputs
 pub mod Machines
-pub mod Items
-pub mod HandedOut
+pub mod InputsOfFunctions
+pub mod KeptByInput
 pub mod GatheredInputs
 pub mod WithinLimits
 pub mod Files
 pub mod Limits
-pub mod Finding
+pub mod OneFound
 pub mod Agreeing
 pub mod Applying
 pub mod Walking
@@ -18,8 +18,8 @@ pub mod Worked
 pub mod Accepting
 pub mod ByStart
 pub mod OneMachine
-pub mod Members
-pub mod Holding
+pub mod ListMembers
+pub mod OneHolder
 pub mod RowAt
 pub mod NeverMemory
 pub mod Described

@@ -54,7 +54,7 @@ use Rattle.elf_reloc.specs.Table.{fits, width_of}
 use Rattle.sf_functions.specs.declared.limits.Limit.{Limit}
 use Rattle.sf_functions.specs.declared.limits.Limit.TheVariants.{Functions, Rows}
 use Rattle.sf_functions.specs.Limits.{exceeded}
-use Rattle.frame_functions.specs.declared.entry.Entry.{Entry}
+use Rattle.frame_functions.specs.declared.read_function.ReadFunction.{ReadFunction}
 use Rattle.frame_functions.specs.declared.fault.AsmFault.{AsmFault}
 use Rattle.frame_functions.specs.declared.fault.AsmFault.TheVariants as asm
 use Rattle.sf_asm.specs.declared.fault.GatherFault.{GatherFault}
@@ -66,9 +66,9 @@ use Rattle.frame_functions.specs.CallFrames.{CallFrames, bare_section}
 use Rattle.frame_functions.specs.Functions.{Function, fault_in, function_in, functions_in, section_functions, sections_functions, span_in}
 use Rattle.sf_asm.specs.Functions.{◌>>=◌, Object, functions_after, functions_of, named, object_functions, seen_behind, unless}
 use Rattle.sf_asm.specs.Inputs.{all_functions, differing, first_item, machines_of, mixed_fault}
-use Rattle.frame_functions.specs.Entry.{spans_of}
+use Rattle.frame_functions.specs.ReadFunction.{spans_of}
 use Rattle.sf_asm.specs.Linking.{Gathers, GathersFrom, fault_of_limit, functions_fault, limits_fault, or_later, overlap_fault, overlap_in, unless_fault}
-use Rattle.frame_functions.specs.Order.{entry_rows, exceeded_by}
+use Rattle.frame_functions.specs.Order.{read_rows, exceeded_by}
 use Rattle.frame_functions.specs.Relocated.{Values, by_place, on_pointers, patched_values, pointer_check, pointer_slot, relocations_of}
 use Rattle.sf_asm.specs.Sections.{dropped_after, elf_sections, linked_check, linked_kind, placed_section, placing_of}
 use Rattle.sf_asm.proofs.Described.{from_gathers}
@@ -396,21 +396,21 @@ pub limit_answered : (limit : Limit) → IsTrue (is_wrapped_answered (fault_of_l
 limit_answered Functions = refl
 limit_answered Rows = refl
 
-limits : (ordered : List Entry) → FaultIn is_wrapped_answered (limits_fault ordered)
+limits : (ordered : List ReadFunction) → FaultIn is_wrapped_answered (limits_fault ordered)
 unfolding limits_fault exceeded_by
-limits ordered = any_mapped is_wrapped_answered fault_of_limit (exceeded (length ordered) (sum_by entry_rows ordered)) limit_answered
+limits ordered = any_mapped is_wrapped_answered fault_of_limit (exceeded (length ordered) (sum_by read_rows ordered)) limit_answered
 
-pub functions_tried : (ordered : List Entry) → FaultIn is_wrapped_answered (functions_fault ordered)
+pub functions_tried : (ordered : List ReadFunction) → FaultIn is_wrapped_answered (functions_fault ordered)
 functions_tried ordered =
     earlier is_wrapped_answered (limits_fault ordered) _ (limits ordered) (any_mapped is_wrapped_answered overlap_fault (overlap_in (spans_of ordered)) (λ pair. refl))
 
-gathers_from : (given : Result (List Function) GatherFault) (result : Result (List Entry) GatherFault) → FaultIs is_gather_refusal given → GathersFrom given result → FaultIs is_wrapped_answered result
+gathers_from : (given : Result (List Function) GatherFault) (result : Result (List ReadFunction) GatherFault) → FaultIs is_gather_refusal given → GathersFrom given result → FaultIs is_wrapped_answered result
 gathers_from (Ok functions) result h (ordered, order, is) =
     subst (FaultIs is_wrapped_answered) (sym is) (where_none is_wrapped_answered (functions_fault ordered) ordered (functions_tried ordered))
 gathers_from (Err fault) result h is = subst (FaultIs is_wrapped_answered) (sym is) (refusal_or_limit fault h)
 
 -- gathering comes to no fault but a refusal or a limit
-gathers : (before : Option Arch) (objects : List Object) (result : Result (List Entry) GatherFault) → Gathers before objects result → FaultIs is_wrapped_answered result
+gathers : (before : Option Arch) (objects : List Object) (result : Result (List ReadFunction) GatherFault) → Gathers before objects result → FaultIs is_wrapped_answered result
 gathers before objects result h = gathers_from (all_functions before objects) result (all_refused before objects) (from_gathers before objects result h)
 
 -- and a call returns that fault, or that memory ran out

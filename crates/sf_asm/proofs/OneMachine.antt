@@ -7,7 +7,7 @@ use Rattle.sf_asm.specs.declared.fault.GatherFault.TheVariants as gather
 use Rattle.frame_functions.specs.Functions.{Function}
 use Rattle.sf_asm.specs.Functions.{◌>>=◌, Object, functions_after, functions_of, machine_of, named, object_functions, seen_behind}
 use Rattle.sf_asm.specs.Inputs.{HaveMachine, first_item}
-use Rattle.sf_asm.proofs.Items.{AreOf, behind, list_in, object_of_item, unnamed}
+use Rattle.sf_asm.proofs.InputsOfFunctions.{AreOf, behind, list_in, object_of_item, unnamed}
 use Rattle.sf_asm.proofs.Machines.{inputs_have}
 use Rattle.sf_asm.proofs.ReadInputs.{functions_after-cons, functions_after-nil}
 

@@ -13,27 +13,27 @@ use Rattle.sf_model.specs.declared.machine.Key.{Key}
 use Rattle.sf_model.specs.declared.omission.Omitted.{Omitted}
 use Rattle.sf_model.specs.Function.{IsWritable}
 use Rattle.sf_model.specs.Lookup.{contains}
-use Rattle.sf_express.specs.declared.pieces.Piece.{Piece}
-use Rattle.sf_express.specs.Pieces.{ArePieces, AreSaidBy, PiecesDiffer, piece_of_row, said_by}
+use Rattle.sf_express.specs.declared.content_ranges.ContentRange.{ContentRange}
+use Rattle.sf_express.specs.ContentRanges.{AreRanges, AreSaidBy, RangesDiffer, range_of_row, said_by}
 use Rattle.sf_asm.specs.Described.{Describe}
-use Rattle.frame_functions.specs.Entry.{kept_of}
+use Rattle.frame_functions.specs.ReadFunction.{kept_of}
 use Rattle.frame_functions.specs.Functions.{holds_address, Function}
 use Rattle.sf_asm.specs.Functions.{Object}
-use Rattle.frame_functions.specs.Kept.{entry_of, is_kept, kept_functions, omitted_functions}
+use Rattle.frame_functions.specs.Kept.{read_of, is_kept, kept_functions, omitted_functions}
 use Rattle.frame_functions.specs.Order.{are_apart}
 use Rattle.frame_functions.specs.ContentAt.{IsSaidUpTo, RowAt, SaidTo, SaysUpTo, dwarf_at, form_content, said_in, with_key}
-use Rattle.sf_asm.specs.Sources.{AreWithSources}
+use Rattle.sf_asm.specs.Descriptions.{AreWithDescriptions}
 use Rattle.frame_functions.specs.declared.keyed_content.KeyedContent.{KeyedContent}
 use Rattle.sf_asm.proofs.Agreeing.{expressed_of, find_kept, found_passes}
 use Rattle.sf_asm.proofs.Described.{described}
 use Rattle.sf_model.proofs.Unions.{Member, found, found_alone, from_filter, in_filter, some_found}
-use Rattle.sf_asm.proofs.Finding.{found_alike}
-use Rattle.sf_asm.proofs.Holding.{IsWithin, gathered_apart, is_within, kept_said_by, one_holds, within}
-use Rattle.sf_asm.proofs.Members.{placed}
+use Rattle.sf_asm.proofs.OneFound.{found_alike}
+use Rattle.sf_asm.proofs.OneHolder.{IsWithin, gathered_apart, is_within, kept_said_by, one_holds, within}
+use Rattle.sf_asm.proofs.ListMembers.{placed}
 
 -- the kept functions are those of another list, too
-pub with_kept : (before : Option Arch) (objects : List Object) (arch : Arch) (kept other : List Func) (omitted : List Omitted) (sources : List Function) → AreWithSources before objects arch kept omitted sources → other ≡ kept → AreWithSources before objects arch other omitted sources
-with_kept before objects arch kept other omitted sources h is = subst (λ (fs : List Func). AreWithSources before objects arch fs omitted sources) (sym is) h
+pub with_kept : (before : Option Arch) (objects : List Object) (arch : Arch) (kept other : List Func) (omitted : List Omitted) (descriptions : List Function) → AreWithDescriptions before objects arch kept omitted descriptions → other ≡ kept → AreWithDescriptions before objects arch other omitted descriptions
+with_kept before objects arch kept other omitted descriptions h is = subst (λ (fs : List Func). AreWithDescriptions before objects arch fs omitted descriptions) (sym is) h
 
 -- ---- what calls found
 pub found_in : {X Y : Type 0} (view : X → Y) (p : Y → Bool) (found : Option X) (x : X) (asked items : List Y) → asked ≡ items → option_map view found ≡ find p asked → found ≡ Some x → find p items ≡ Some (view x)
@@ -58,24 +58,24 @@ has_it f start size pc b start_is size_is e =
     sym (e ∙ ap (λ (n : ℕ). nat_le n pc && nat_lt pc (n + size)) start_is ∙ ap (λ (n : ℕ). nat_le f.start pc && nat_lt pc (f.start + n)) size_is)
 
 -- ---- one function
--- what its pieces say, from an address up to the last one of a piece
-record IsPiece (f : Function) (pieces : List Piece) (pc last : ℕ) (content : Option Content) : Type 0 where
+-- what its ranges say, from an address up to the last one of a range
+record IsRange (f : Function) (ranges : List ContentRange) (pc last : ℕ) (content : Option Content) : Type 0 where
   low : f.start ≤ pc
   high : pc < f.start + f.size
   from_here : pc - f.start ≤ last
   below : last < f.size
-  says : (o : ℕ) → pc - f.start ≤ o → o ≤ last → said_by o None pieces ≡ Some content
-  after : last + 1 < f.size → said_by (last + 1) None pieces ≡ Some content → ⊥
+  says : (o : ℕ) → pc - f.start ≤ o → o ≤ last → said_by o None ranges ≡ Some content
+  after : last + 1 < f.size → said_by (last + 1) None ranges ≡ Some content → ⊥
 
-form_is : (f : Function) (pieces : List Piece) (o : ℕ) (content : Option Content) → AreSaidBy f.size (form_content f) pieces → o < f.size → said_by o None pieces ≡ Some content → form_content f o ≡ content
-form_is f pieces o content said lt e = let is : Some (form_content f o) ≡ Some content = sym (said.say o lt) ∙ e in cc
+form_is : (f : Function) (ranges : List ContentRange) (o : ℕ) (content : Option Content) → AreSaidBy f.size (form_content f) ranges → o < f.size → said_by o None ranges ≡ Some content → form_content f o ≡ content
+form_is f ranges o content said lt e = let is : Some (form_content f o) ≡ Some content = sym (said.say o lt) ∙ e in cc
 
 some_content : (key : Key) (found : Option Content) (content : Content) → option_map (with_key key) found ≡ Some (with_key key content) → found ≡ Some content
 some_content key None content e = cc
 some_content key (Some c) content e = let is : with_key key c ≡ with_key key content = cc in ap (λ (s : KeyedContent). Some s.content) is
 
-says_up_to : (f : Function) (pieces : List Piece) (pc last : ℕ) (content : Content) → AreSaidBy f.size (form_content f) pieces → IsPiece f pieces pc last (Some content) → IsSaidUpTo (λ p. said_in p f) f pc (with_key f.key content) (f.start + last)
-says_up_to f pieces pc last content said h =
+says_up_to : (f : Function) (ranges : List ContentRange) (pc last : ℕ) (content : Content) → AreSaidBy f.size (form_content f) ranges → IsRange f ranges pc last (Some content) → IsSaidUpTo (λ p. said_in p f) f pc (with_key f.key content) (f.start + last)
+says_up_to f ranges pc last content said h =
     let from : f.start ≤ pc = h.low in
     record {
       from_here = (let le = h.from_here in omega (arith, from, le));
@@ -84,7 +84,7 @@ says_up_to f pieces pc last content said h =
           (let lt = h.below in
           let le : pc - f.start ≤ p - f.start = omega (arith, from, low) in
           let most : p - f.start ≤ last = omega (arith, high, from, low) in
-          ap (option_map (with_key f.key)) (form_is f pieces (p - f.start) (Some content) said (omega (arith, most, lt)) (h.says (p - f.start) le most)));
+          ap (option_map (with_key f.key)) (form_is f ranges (p - f.start) (Some content) said (omega (arith, most, lt)) (h.says (p - f.start) le most)));
       greatest = λ other has same. elim (cases_lt (f.start + last) other) [
         | inl past ↦ absurd (past_last other (within other f has) same past)
         | inr not_past ↦ omega (arith, not_past)
@@ -102,23 +102,23 @@ says_up_to f pieces pc last content said h =
         let form = some_content f.key (form_content f (last + 1)) content (subst (λ (o : ℕ). option_map (with_key f.key) (form_content f o) ≡ Some (with_key f.key content)) offset here) in
         h.after lt (said.say (last + 1) lt ∙ ap (λ (x : Option Content). Some x) form)
 
-by_piece : (f : Function) (pieces : List Piece) (pc last : ℕ) (content : Option Content) → AreSaidBy f.size (form_content f) pieces → IsPiece f pieces pc last content
+by_range : (f : Function) (ranges : List ContentRange) (pc last : ℕ) (content : Option Content) → AreSaidBy f.size (form_content f) ranges → IsRange f ranges pc last content
     → SaysUpTo (λ p. said_in p f) f pc (option_map (λ (c : Content). (c, f.key, f.start + last)) content)
-by_piece f pieces pc last None said h =
+by_range f ranges pc last None said h =
     let from = h.low in
     let lt = h.below in
     let le = h.from_here in
-    ap (option_map (with_key f.key)) (form_is f pieces (pc - f.start) None said (omega (arith, le, lt)) (h.says (pc - f.start) (omega arith) le))
-by_piece f pieces pc last (Some content) said h = says_up_to f pieces pc last content said h
+    ap (option_map (with_key f.key)) (form_is f ranges (pc - f.start) None said (omega (arith, le, lt)) (h.says (pc - f.start) (omega arith) le))
+by_range f ranges pc last (Some content) said h = says_up_to f ranges pc last content said h
 
--- what a function's pieces say at one of its addresses
-pub piece_row : (f : Function) (pieces : List Piece) (start size pc last : ℕ) (key : Key) (content : Option Content) → f.start ≡ start → f.size ≡ size → f.key ≡ key → AreSaidBy size (form_content f) pieces
-    → start ≤ pc → pc < start + size → pc - start ≤ last → last < size → ((o : ℕ) → pc - start ≤ o → o ≤ last → said_by o None pieces ≡ Some content)
-    → (PiecesDiffer None pieces → last + 1 < size → said_by (last + 1) None pieces ≢ Some content) → SaysUpTo (λ p. said_in p f) f pc (option_map (λ (c : Content). (c, key, start + last)) content)
-piece_row f pieces start size pc last key content start_is size_is key_is said from to le lt says after =
+-- what a function's ranges say at one of its addresses
+pub range_row : (f : Function) (ranges : List ContentRange) (start size pc last : ℕ) (key : Key) (content : Option Content) → f.start ≡ start → f.size ≡ size → f.key ≡ key → AreSaidBy size (form_content f) ranges
+    → start ≤ pc → pc < start + size → pc - start ≤ last → last < size → ((o : ℕ) → pc - start ≤ o → o ≤ last → said_by o None ranges ≡ Some content)
+    → (RangesDiffer None ranges → last + 1 < size → said_by (last + 1) None ranges ≢ Some content) → SaysUpTo (λ p. said_in p f) f pc (option_map (λ (c : Content). (c, key, start + last)) content)
+range_row f ranges start size pc last key content start_is size_is key_is said from to le lt says after =
     subst (λ (n : ℕ). SaysUpTo (λ p. said_in p f) f pc (option_map (λ (c : Content). (c, key, n + last)) content)) start_is
     (subst (λ (k : Key). SaysUpTo (λ p. said_in p f) f pc (option_map (λ (c : Content). (c, k, f.start + last)) content)) key_is
-    (by_piece f pieces pc last content (subst (λ (n : ℕ). AreSaidBy n (form_content f) pieces) (sym size_is) said) (record {
+    (by_range f ranges pc last content (subst (λ (n : ℕ). AreSaidBy n (form_content f) ranges) (sym size_is) said) (record {
       low = omega (arith, from, start_is);
       high = omega (arith, to, start_is, size_is);
       from_here = omega (arith, le, start_is);
@@ -163,7 +163,7 @@ record IsKeptThere (functions : List Function) (pc : ℕ) (g : Func) : Type 0 wh
   is : g ≡ expressed_of f
   holder : IsHolder functions pc f
 
-module _ (functions sorted : List Function) (moved : IsPermutation functions sorted) (apart : are_apart 0 (map entry_of sorted) ≡ true) (pc : ℕ) where
+module _ (functions sorted : List Function) (moved : IsPermutation functions sorted) (apart : are_apart 0 (map read_of sorted) ≡ true) (pc : ℕ) where
   holder_of : (f : Function) → Member sorted f → holds_address pc f ≡ true → IsHolder functions pc f
   unfolding dwarf_at
   holder_of f m has = record { is = alone pc has; has = has; there = λ p t. ap (option_and_then (said_in p)) (alone p t) }
@@ -171,7 +171,7 @@ module _ (functions sorted : List Function) (moved : IsPermutation functions sor
       alone : (p : ℕ) → holds_address p f ≡ true → find (holds_address p) functions ≡ Some f
       alone p t = found_alike (holds_address p) functions sorted moved (one_holds p 0 sorted apart) ∙ found_alone (holds_address p) sorted f (one_holds p 0 sorted apart) m t
 
-  kept_there : (g : Func) → find (contains pc) (kept_of (map entry_of sorted)) ≡ Some g → IsKeptThere functions pc g
+  kept_there : (g : Func) → find (contains pc) (kept_of (map read_of sorted)) ≡ Some g → IsKeptThere functions pc g
   kept_there g e = at_found (find (holds_address pc) (kept_functions sorted)) refl (sym (find_kept pc sorted) ∙ e)
     where
       at_found : (o : Option Function) → find (holds_address pc) (kept_functions sorted) ≡ o → option_map expressed_of (find (holds_address pc) (kept_functions sorted)) ≡ Some g → IsKeptThere functions pc g
@@ -183,14 +183,14 @@ module _ (functions sorted : List Function) (moved : IsPermutation functions sor
           let m = from_filter is_kept sorted f (found (holds_address pc) (kept_functions sorted) f is).within in
           record { f = f; kept = passes.1; is = sym one; holder = holder_of f m passes.0 }
 
-  omitted_there : (sources : List Function) (f : Function) → sources ≡ omitted_functions sorted → find (holds_address pc) sources ≡ Some f → IsHolder functions pc f
-  omitted_there sources f are e =
+  omitted_there : (descriptions : List Function) (f : Function) → descriptions ≡ omitted_functions sorted → find (holds_address pc) descriptions ≡ Some f → IsHolder functions pc f
+  omitted_there descriptions f are e =
       let h = found (holds_address pc) (omitted_functions sorted) f (subst (λ (fs : List Function). find (holds_address pc) fs ≡ Some f) are e) in
       holder_of f (from_filter (λ (g : Function). not (is_kept g)) sorted f h.within) h.passes
 
-  none_there : (sources : List Function) → sources ≡ omitted_functions sorted → find (contains pc) (kept_of (map entry_of sorted)) ≡ None → find (holds_address pc) sources ≡ None → dwarf_at functions pc ≡ None
+  none_there : (descriptions : List Function) → descriptions ≡ omitted_functions sorted → find (contains pc) (kept_of (map read_of sorted)) ≡ None → find (holds_address pc) descriptions ≡ None → dwarf_at functions pc ≡ None
   unfolding dwarf_at
-  none_there sources are no_kept no_omitted = at_found (find (holds_address pc) sorted) refl
+  none_there descriptions are no_kept no_omitted = at_found (find (holds_address pc) sorted) refl
     where
       no_lent : find (holds_address pc) (omitted_functions sorted) ≡ None
       no_lent = subst (λ (fs : List Function). find (holds_address pc) fs ≡ None) are no_omitted
@@ -204,9 +204,9 @@ module _ (functions sorted : List Function) (moved : IsPermutation functions sor
       at_found (Some f) e = let h = found (holds_address pc) sorted f e in absurd (neither f h.passes h.within (is_kept f) refl)
 
 -- ---- gathered functions
-module _ (objects : List Object) (arch : Arch) (kept : List Func) (omitted : List Omitted) (sources : List Function) (h : AreWithSources None objects arch kept omitted sources) (pc : ℕ) where
-  apart : are_apart 0 (map entry_of h.sorted) ≡ true
-  apart = gathered_apart None objects (map entry_of h.sorted) h.is
+module _ (objects : List Object) (arch : Arch) (kept : List Func) (omitted : List Omitted) (descriptions : List Function) (h : AreWithDescriptions None objects arch kept omitted descriptions) (pc : ℕ) where
+  apart : are_apart 0 (map read_of h.sorted) ≡ true
+  apart = gathered_apart None objects (map read_of h.sorted) h.is
 
   of_these : (row : Option (Content × Key × ℕ)) → RowAt h.functions pc row → (functions : List Function) → Describe 0 objects (Ok functions) → RowAt functions pc row
   of_these row is functions are =
@@ -217,15 +217,15 @@ module _ (objects : List Object) (arch : Arch) (kept : List Func) (omitted : Lis
   kept_function : (g : Func) → find (contains pc) kept ≡ Some g → IsKeptThere h.functions pc g
   kept_function g e = kept_there h.functions h.sorted h.by_start.moved apart pc g (subst (λ (ks : List Func). find (contains pc) ks ≡ Some g) h.kept_are e)
 
-  said_by_rows : (g : Func) (k : IsKeptThere h.functions pc g) → AreSaidBy g.size (form_content k.f) (map piece_of_row g.rows)
-  said_by_rows g k = subst (λ (x : Func). AreSaidBy x.size (form_content k.f) (map piece_of_row x.rows)) (sym k.is) (kept_said_by k.f k.kept)
+  said_by_rows : (g : Func) (k : IsKeptThere h.functions pc g) → AreSaidBy g.size (form_content k.f) (map range_of_row g.rows)
+  said_by_rows g k = subst (λ (x : Func). AreSaidBy x.size (form_content k.f) (map range_of_row x.rows)) (sym k.is) (kept_said_by k.f k.kept)
 
   -- what is owed of it
   pub record IsAskable (g : Func) : Type 0 where
     pub from : g.start ≤ pc
     pub to : pc < g.start + g.size
     pub end : g.start + g.size ≤ 2 ^ 64
-    pub pieces : ArePieces g.size (map piece_of_row g.rows)
+    pub ranges : AreRanges g.size (map range_of_row g.rows)
 
   pub kept_askable : (g : Func) → find (contains pc) kept ≡ Some g → IsAskable g
   kept_askable g e =
@@ -234,21 +234,21 @@ module _ (objects : List Object) (arch : Arch) (kept : List Func) (omitted : Lis
       let writable : IsWritable arch g = subst (IsWritable arch) (p.is g) (h.writable.each p.place g p.within) in
       let k = kept_function g e in
       let w = within pc k.f k.holder.has in
-      record { from = subst (λ (x : Func). x.start ≤ pc) (sym k.is) w.from; to = subst (λ (x : Func). pc < x.start + x.size) (sym k.is) w.to; end = writable.end; pieces = (said_by_rows g k).are }
+      record { from = subst (λ (x : Func). x.start ≤ pc) (sym k.is) w.from; to = subst (λ (x : Func). pc < x.start + x.size) (sym k.is) w.to; end = writable.end; ranges = (said_by_rows g k).are }
 
   pub row_of_kept : (g : Func) → find (contains pc) kept ≡ Some g → (row : Option (Content × Key × ℕ))
-      → ((f : Function) → f.start ≡ g.start → f.size ≡ g.size → f.key ≡ g.key → AreSaidBy g.size (form_content f) (map piece_of_row g.rows) → SaysUpTo (λ p. said_in p f) f pc row)
+      → ((f : Function) → f.start ≡ g.start → f.size ≡ g.size → f.key ≡ g.key → AreSaidBy g.size (form_content f) (map range_of_row g.rows) → SaysUpTo (λ p. said_in p f) f pc row)
       → (functions : List Function) → Describe 0 objects (Ok functions) → RowAt functions pc row
   row_of_kept g e row says =
       let k = kept_function g e in
       let own = says k.f (sym (ap (λ (x : Func). x.start) k.is)) (sym (ap (λ (x : Func). x.size) k.is)) (sym (ap (λ (x : Func). x.key) k.is)) (said_by_rows g k) in
       of_these row (by_holder h.functions pc k.f row k.holder own)
 
-  pub row_of_omitted : (f : Function) → find (holds_address pc) sources ≡ Some f → (row : Option (Content × Key × ℕ)) → SaysUpTo (λ p. said_in p f) f pc row → (functions : List Function) → Describe 0 objects (Ok functions) → RowAt functions pc row
-  row_of_omitted f e row says = of_these row (by_holder h.functions pc f row (omitted_there h.functions h.sorted h.by_start.moved apart pc sources f h.sources_are e) says)
+  pub row_of_omitted : (f : Function) → find (holds_address pc) descriptions ≡ Some f → (row : Option (Content × Key × ℕ)) → SaysUpTo (λ p. said_in p f) f pc row → (functions : List Function) → Describe 0 objects (Ok functions) → RowAt functions pc row
+  row_of_omitted f e row says = of_these row (by_holder h.functions pc f row (omitted_there h.functions h.sorted h.by_start.moved apart pc descriptions f h.descriptions_are e) says)
 
-  pub omitted_within : (f : Function) → find (holds_address pc) sources ≡ Some f → IsWithin pc f.start f.size
-  omitted_within f e = within pc f (found (holds_address pc) sources f e).passes
+  pub omitted_within : (f : Function) → find (holds_address pc) descriptions ≡ Some f → IsWithin pc f.start f.size
+  omitted_within f e = within pc f (found (holds_address pc) descriptions f e).passes
 
-  pub no_row : find (contains pc) kept ≡ None → find (holds_address pc) sources ≡ None → (functions : List Function) → Describe 0 objects (Ok functions) → RowAt functions pc None
-  no_row no_kept no_omitted = of_these None (none_there h.functions h.sorted h.by_start.moved apart pc sources h.sources_are (subst (λ (ks : List Func). find (contains pc) ks ≡ None) h.kept_are no_kept) no_omitted)
+  pub no_row : find (contains pc) kept ≡ None → find (holds_address pc) descriptions ≡ None → (functions : List Function) → Describe 0 objects (Ok functions) → RowAt functions pc None
+  no_row no_kept no_omitted = of_these None (none_there h.functions h.sorted h.by_start.moved apart pc descriptions h.descriptions_are (subst (λ (ks : List Func). find (contains pc) ks ≡ None) h.kept_are no_kept) no_omitted)

@@ -6,10 +6,10 @@ use Rattle.sf_model.specs.Memory.{Region}
 use Rattle.sf_model.specs.Recovery.{Recovery, Value, Known, Unreadable}
 use Rattle.sf_model.specs.Walk.{ThreadState, behind, unsigned_address, Going, on_by_address, on_by_pointer, on_by, frame_by, Recovering, address_before, frames_from, walk_by, recover_by_rows, section_walk}
 use Rattle.sf_express.specs.Alike.{defined}
-use Rattle.frame_functions.specs.declared.entry.Entry.{Entry}
-use Rattle.frame_functions.specs.Entry.{kept_of, spans_of}
+use Rattle.frame_functions.specs.declared.read_function.ReadFunction.{ReadFunction}
+use Rattle.frame_functions.specs.ReadFunction.{kept_of, spans_of}
 use Rattle.frame_functions.specs.Functions.{Function}
-use Rattle.frame_functions.specs.Kept.{entry_of}
+use Rattle.frame_functions.specs.Kept.{read_of}
 use Rattle.frame_functions.specs.Order.{InOrder}
 use Rattle.sf_asm.specs.Linking.{overlap_in}
 use Rattle.sf_asm.specs.Faithful.{if_whole, recover_by_dwarf, dwarf_walk}
@@ -48,12 +48,12 @@ pub undone : (r : Option Recovery) → option_and_then if_whole (option_map defi
 undone None = refl
 undone (Some r) = refl
 
-recover_alike : (fs : List Function) (ordered : List Entry) → InOrder (map entry_of fs) ordered → overlap_in (spans_of ordered) ≡ None → (memory : List Region) (asked : ℕ) (regs : Regs)
+recover_alike : (fs : List Function) (ordered : List ReadFunction) → InOrder (map read_of fs) ordered → overlap_in (spans_of ordered) ≡ None → (memory : List Region) (asked : ℕ) (regs : Regs)
     → recover_by_rows (kept_of ordered) memory asked regs ≡ recover_by_dwarf fs memory asked regs
 recover_alike fs ordered order apart memory asked regs =
     sym (undone (recover_by_rows (kept_of ordered) memory asked regs)) ∙ ap (option_and_then if_whole) (recovers_by_dwarf fs ordered order apart asked regs memory)
 
-pub walks_by_dwarf : (fs : List Function) (ordered : List Entry) → InOrder (map entry_of fs) ordered → overlap_in (spans_of ordered) ≡ None → (thread : ThreadState) (memory : List Region) (depth : ℕ)
+pub walks_by_dwarf : (fs : List Function) (ordered : List ReadFunction) → InOrder (map read_of fs) ordered → overlap_in (spans_of ordered) ≡ None → (thread : ThreadState) (memory : List Region) (depth : ℕ)
     → section_walk (kept_of ordered) thread memory depth ≡ dwarf_walk fs thread memory depth
 unfolding section_walk dwarf_walk walk_by recover_by_rows
 walks_by_dwarf fs ordered order apart thread memory depth =

@@ -9,15 +9,15 @@ use Rattle.sf_model.specs.declared.content.Ra.TheVariants.{Fixed, Link, At}
 use Rattle.sf_model.specs.declared.function.Shape.TheVariants.{Plain}
 use Rattle.sf_model.specs.declared.omission.Reason.TheVariants.{RaRule, CfaRegister}
 use Rattle.eh_records.specs.declared.fault.RecordFault.TheVariants as record_faults
-use Rattle.frame_functions.specs.declared.entry.Entry.{Entry}
-use Rattle.frame_functions.specs.declared.entry.Expressed.TheVariants as outcome
+use Rattle.frame_functions.specs.declared.read_function.ReadFunction.{ReadFunction}
+use Rattle.frame_functions.specs.declared.read_function.Expressed.TheVariants as outcome
 use Rattle.frame_functions.specs.declared.fault.AsmFault.{AsmFault}
 use Rattle.frame_functions.specs.declared.fault.AsmFault.TheVariants as asm
 use Rattle.sf_asm.specs.declared.fault.GatherFault.{GatherFault}
 use Rattle.sf_asm.specs.declared.fault.GatherFault.TheVariants as gather
 use Rattle.sf_model.specs.declared.form.Form.TheVariants.{Bare}
 use Rattle.frame_functions.specs.Answers.{seen_as}
-use Rattle.frame_functions.specs.Kept.{entry_of}
+use Rattle.frame_functions.specs.Kept.{read_of}
 use Rattle.sf_bytes.specs.Cursor.{number_at, part_at, signed_at}
 use Rattle.sf_bytes.specs.Leb.{is_negative, leb_signed, leb_sum, run_length, sleb_at, uleb_at}
 use Rattle.sf_bytes.specs.Text.{text_at}
@@ -44,8 +44,8 @@ use Rattle.sf_asm.specs.Functions.{functions_after, functions_of}
 use Rattle.elf_reloc.specs.Applied.{slot_check}
 
 -- what becomes of the functions of a bare section whose first byte lies at 0x2000
-abbrev becomes : Arch → List ℕ → Result (List Entry) GatherFault
-becomes arch bytes = seen_as (map entry_of) (functions_of 0 (record { form = Bare arch; bytes = bytes; base = 0x2000 } ∷ []))
+abbrev becomes : Arch → List ℕ → Result (List ReadFunction) GatherFault
+becomes arch bytes = seen_as (map read_of) (functions_of 0 (record { form = Bare arch; bytes = bytes; base = 0x2000 } ∷ []))
 
 -- a function that pushes its frame pointer
 abbrev a_function_that_pushes_bytes : List ℕ
@@ -137,8 +137,8 @@ a_record_that_is_cut = refl
 
 -- ---- a section of an object, one relocation of which lies on a start
 -- what becomes of its function, by the value that is written there, and whether its symbol lies in a dropped section
-abbrev becomes_with : Option ℕ → Bool → Result (List Entry) AsmFault
-becomes_with value dropped = seen_as (map entry_of) (section_functions Amd64 0 (record {
+abbrev becomes_with : Option ℕ → Bool → Result (List ReadFunction) AsmFault
+becomes_with value dropped = seen_as (map read_of) (section_functions Amd64 0 (record {
   number = 3;
   bytes = an_undefined_return_address_bytes;
   address = 0x2000;

@@ -8,23 +8,23 @@ use Rattle.sf_model.specs.Function.{AreWritable}
 use Rattle.sf_model.specs.Tight.{Narrow, Tight}
 use Rattle.sf_write.specs.Section.{table_of}
 use Rattle.sf_asm.specs.Described.{Describe}
-use Rattle.frame_functions.specs.declared.entry.Entry.{Entry}
+use Rattle.frame_functions.specs.declared.read_function.ReadFunction.{ReadFunction}
 use Rattle.sf_asm.specs.declared.fault.GatherFault.{GatherFault}
 use Rattle.sf_asm.specs.declared.fault.GatherFault.TheVariants as gather
 use Rattle.sf_asm.specs.declared.fault.LinkFault.{LinkFault}
 use Rattle.sf_asm.specs.declared.fault.LinkFault.TheVariants as link
-use Rattle.frame_functions.specs.Entry.{kept_by_item, kept_of, omitted_of, spans_of}
+use Rattle.frame_functions.specs.ReadFunction.{kept_by_item, kept_of, omitted_of, spans_of}
 use Rattle.sf_asm.specs.Faithful.{Faithful}
 use Rattle.frame_functions.specs.Functions.{Function}
 use Rattle.sf_asm.specs.Functions.{Object}
 use Rattle.sf_asm.specs.Inputs.{HaveMachine, first_item}
-use Rattle.frame_functions.specs.Kept.{entry_of}
+use Rattle.frame_functions.specs.Kept.{read_of}
 use Rattle.frame_functions.specs.Order.{InOrder}
 use Rattle.sf_asm.specs.Linking.{Gathers, Links, link_fault}
 
 -- the functions of all inputs, after an item of this machine or of none, sorted out in their order
 pub record AreGathered (before : Option Arch) (objects : List Object) (arch : Arch) (kept : List (List Func)) (omitted : List Omitted) (spans : List Span) : Type 0 where
-  pub ordered : List Entry
+  pub ordered : List ReadFunction
   pub is : Gathers before objects (Ok ordered)
   -- a list for each input
   pub kept_are : kept ≡ kept_by_item (first_item before) (length objects) ordered
@@ -35,7 +35,7 @@ pub record AreGathered (before : Option Arch) (objects : List Object) (arch : Ar
 
 -- the same functions, those of all inputs together
 pub record AreTogether (before : Option Arch) (objects : List Object) (arch : Arch) (kept : List Func) (omitted : List Omitted) : Type 0 where
-  pub ordered : List Entry
+  pub ordered : List ReadFunction
   pub is : Gathers before objects (Ok ordered)
   pub kept_are : kept ≡ kept_of ordered
   -- one section can hold them
@@ -54,8 +54,8 @@ pub record IsLinked (before : Option Arch) (objects : List Object) (at : ℕ) (s
   pub are : Describe (first_item before) objects (Ok functions)
   pub arch : Arch
   pub machine : HaveMachine before objects arch
-  pub ordered : List Entry
-  pub in_order : InOrder (map entry_of functions) ordered
+  pub ordered : List ReadFunction
+  pub in_order : InOrder (map read_of functions) ordered
   pub accepted : link_fault at ordered ≡ None
   pub faithful : Faithful section at arch functions
   pub tight : Tight section at (table_of arch (kept_of ordered))

@@ -14,10 +14,10 @@ use Rattle.sf_model.specs.Table.{Table}
 use Rattle.sf_model.specs.Walk.{ThreadState, Listing, Recovering, walk_by, recover_by_rows, section_walk}
 use Rattle.cfa_machine.specs.Recovery.{RuleRecovery, recovery_by_rules}
 use Rattle.sf_express.specs.Alike.{defined}
-use Rattle.frame_functions.specs.declared.entry.Entry.{Entry}
-use Rattle.frame_functions.specs.Entry.{kept_of}
+use Rattle.frame_functions.specs.declared.read_function.ReadFunction.{ReadFunction}
+use Rattle.frame_functions.specs.ReadFunction.{kept_of}
 use Rattle.frame_functions.specs.Functions.{Function, holds_address}
-use Rattle.frame_functions.specs.Kept.{full_row, entry_of, kept_functions}
+use Rattle.frame_functions.specs.Kept.{full_row, read_of, kept_functions}
 use Rattle.frame_functions.specs.Order.{InOrder}
 
 -- ---- by DWARF
@@ -56,8 +56,8 @@ dwarf_walk functions thread memory depth = walk_by (recover_by_dwarf functions m
 -- its table has the kept functions of these, by rising start, as they are expressed
 pub record HoldsKept (table : Table) (arch : Arch) (functions : List Function) : Type 0 where
   pub machine : table.arch ≡ arch
-  pub ordered : List Entry
-  pub in_order : InOrder (map entry_of functions) ordered
+  pub ordered : List ReadFunction
+  pub in_order : InOrder (map read_of functions) ordered
   pub kept : table.functions ≡ kept_of ordered
 
 -- At each address of a kept function the section recovers what DWARF recovers there, for all registers and memory, where what

@@ -8,5 +8,5 @@ pub mod Answers
 pub mod FaultShown
 pub mod Placing
 pub mod Accepted
-pub mod Sources
+pub mod Descriptions
 pub mod Described

@@ -8,17 +8,17 @@ use Rattle.sf_write.specs.Reach.{first_out_of_reach}
 use Rattle.sf_functions.specs.declared.limits.Limit.{Limit}
 use Rattle.sf_functions.specs.declared.limits.Limit.TheVariants.{Functions, Rows}
 use Rattle.sf_functions.specs.Neighbours.{first_overlap, overlap_by}
-use Rattle.frame_functions.specs.declared.entry.Entry.{Entry}
+use Rattle.frame_functions.specs.declared.read_function.ReadFunction.{ReadFunction}
 use Rattle.sf_asm.specs.declared.fault.GatherFault.{GatherFault}
 use Rattle.sf_asm.specs.declared.fault.GatherFault.TheVariants as gather
 use Rattle.sf_asm.specs.declared.overlaps.Overlaps.{Overlaps}
 use Rattle.sf_asm.specs.declared.fault.LinkFault.{LinkFault}
 use Rattle.sf_asm.specs.declared.fault.LinkFault.TheVariants.{Gather, OutOfReach}
-use Rattle.frame_functions.specs.Entry.{kept_of, spans_of}
+use Rattle.frame_functions.specs.ReadFunction.{kept_of, spans_of}
 use Rattle.frame_functions.specs.Functions.{Function}
 use Rattle.sf_asm.specs.Functions.{Object}
 use Rattle.sf_asm.specs.Described.{DescribeTogether}
-use Rattle.frame_functions.specs.Kept.{entry_of}
+use Rattle.frame_functions.specs.Kept.{read_of}
 use Rattle.frame_functions.specs.Order.{InOrder, exceeded_by}
 pub use Rattle.sf_model.specs.Firsts.{or_later, unless_fault}
 
@@ -50,39 +50,39 @@ fault_of_limit Functions = gather.TooManyFunctions
 fault_of_limit Rows = gather.TooManyRows
 
 -- at most 2^21 functions, omitted ones included, and 2^24 rows of kept ones
-unfoldable pub limits_fault : List Entry → Option GatherFault
+unfoldable pub limits_fault : List ReadFunction → Option GatherFault
 limits_fault ordered = option_map fault_of_limit (exceeded_by ordered)
 
 -- of all functions: the limits, and then overlaps
-abbrev pub functions_fault : List Entry → Option GatherFault
+abbrev pub functions_fault : List ReadFunction → Option GatherFault
 functions_fault ordered = or_later (limits_fault ordered) (option_map overlap_fault (overlap_in (spans_of ordered)))
 
 -- and of a section at an address: a kept function that is out of reach
-abbrev pub link_fault : (at : ℕ) → List Entry → Option LinkFault
+abbrev pub link_fault : (at : ℕ) → List ReadFunction → Option LinkFault
 link_fault at ordered = or_later (option_map Gather (functions_fault ordered)) (option_map OutOfReach (first_out_of_reach at 0 (kept_of ordered)))
 
 -- ---- all functions in order, or the first fault
 -- a condition on the functions in order, or one on the fault in their place
-abbrev pub Ordered : Result (List Function) GatherFault → (List Entry → Type 0) → (GatherFault → Type 0) → Type 0
-Ordered (Ok functions) Then Fails = (ordered : List Entry) × InOrder (map entry_of functions) ordered × Then ordered
+abbrev pub Ordered : Result (List Function) GatherFault → (List ReadFunction → Type 0) → (GatherFault → Type 0) → Type 0
+Ordered (Ok functions) Then Fails = (ordered : List ReadFunction) × InOrder (map read_of functions) ordered × Then ordered
 Ordered (Err fault) Then Fails = Fails fault
 
 -- gathering these functions, or the fault in their place, comes to this
-abbrev pub GathersFrom : Result (List Function) GatherFault → Result (List Entry) GatherFault → Type 0
+abbrev pub GathersFrom : Result (List Function) GatherFault → Result (List ReadFunction) GatherFault → Type 0
 GathersFrom given result = Ordered given (λ ordered. result ≡ unless_fault (functions_fault ordered) ordered) (λ fault. result ≡ Err fault)
 
 -- gathering inputs, after an item of this machine or of none, comes to this
-pub record Gathers (before : Option Arch) (objects : List Object) (result : Result (List Entry) GatherFault) : Type 0 where
+pub record Gathers (before : Option Arch) (objects : List Object) (result : Result (List ReadFunction) GatherFault) : Type 0 where
   pub given : Result (List Function) GatherFault
   pub described : DescribeTogether before objects given
   pub comes : GathersFrom given result
 
 -- linking them for this address comes to this
-abbrev pub LinksFrom : (at : ℕ) → Result (List Function) GatherFault → Result (List Entry) LinkFault → Type 0
+abbrev pub LinksFrom : (at : ℕ) → Result (List Function) GatherFault → Result (List ReadFunction) LinkFault → Type 0
 LinksFrom at given result = Ordered given (λ ordered. result ≡ unless_fault (link_fault at ordered) ordered) (λ fault. result ≡ Err (Gather fault))
 
 -- linking inputs for this address comes to this
-pub record Links (before : Option Arch) (objects : List Object) (at : ℕ) (result : Result (List Entry) LinkFault) : Type 0 where
+pub record Links (before : Option Arch) (objects : List Object) (at : ℕ) (result : Result (List ReadFunction) LinkFault) : Type 0 where
   pub given : Result (List Function) GatherFault
   pub described : DescribeTogether before objects given
   pub comes : LinksFrom at given result

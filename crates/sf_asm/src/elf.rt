@@ -20,10 +20,10 @@ ghost use Rattle.sf_asm.specs.Sections.{dropped_after, linked_check, placed_sect
 ghost use Rattle.frame_functions.specs.ReadSoFar.{AreSound, ReadsMore};
 ghost use Rattle.elf_groups.specs.SeenSignatures.{HasSeen};
 
-use frame_functions::{AsmFault, CallFrameSection, ReadFunctions, read_section};
 use elf_groups::SeenSignatures;
 use elf_place::{PlaceFault, Placed};
 use elf_read::{Elf, ElfFault, ElfInput, Kind, LinkedElf};
+use frame_functions::{AsmFault, CallFrameSection, ReadFunctions, read_section};
 use sf_model::Arch;
 use std::alloc::Global;
 

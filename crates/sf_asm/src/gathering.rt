@@ -2,13 +2,13 @@
 
 ghost use Rattle.std.specs.Prelude.{◌≡◌, ◌≤◌, ◌<◌, ◌^◌, All, length, map, Ok, None, IfOk, IfErr, IsTrue};
 ghost use Rattle.std.specs.Option.{option_map};
-ghost use Rattle.frame_functions.specs.Entry.{IsSound, spans_of};
+ghost use Rattle.frame_functions.specs.ReadFunction.{IsSound, spans_of};
 ghost use Rattle.frame_functions.specs.Answers.{LendsAll};
 ghost use Rattle.sf_asm.specs.Answers.{AreTogether, IsFirstGathered};
 ghost use Rattle.sf_asm.specs.Functions.{functions_of, object_of, unless};
 ghost use Rattle.sf_asm.specs.Inputs.{HaveMachine, first_item as item_of_first};
 ghost use Rattle.sf_asm.specs.Linking.{Gathers, functions_fault, overlap_fault, overlap_in};
-ghost use Rattle.sf_asm.specs.Sources.{AreWithSources};
+ghost use Rattle.sf_asm.specs.Descriptions.{AreWithDescriptions};
 ghost use Rattle.sf_asm.specs.Fault.{is_gather_answered};
 ghost use Rattle.sf_write.specs.Stored.{IsStored, stored_in};
 
@@ -16,7 +16,7 @@ use crate::fault::GatherFault;
 use crate::input::Input;
 use crate::inputs::{AllFunctions, one_machine, read_all};
 use crate::overlaps::Overlaps;
-use frame_functions::{Entries, InputFunctions, Sources};
+use frame_functions::{Descriptions, FunctionList, InputFunctions};
 use sf_model::Arch;
 use std::alloc::Global;
 
@@ -25,13 +25,13 @@ use std::alloc::Global;
 pub struct ReadInOrder<'a> {
     /// Their machine.
     pub arch: Arch,
-    pub entries: Entries,
+    pub entries: FunctionList,
     /// The omitted ones as their records describe them, in the order of the inputs, or none.
-    pub sources: Sources<'a>,
+    pub descriptions: Descriptions<'a>,
 }
 
 /// Checks that no function that has bytes begins before the end of the one before it.
-fn check_overlaps(entries: &Entries) -> Result<(), GatherFault>
+fn check_overlaps(entries: &FunctionList) -> Result<(), GatherFault>
     ensures { result ≡ unless (option_map overlap_fault (overlap_in (spans_of entries.now))) }
 {
     let mut overlaps = Overlaps::new();
@@ -53,7 +53,7 @@ pub fn ordered<'a>(
     requires some { (0 < length inputs.now) × (length inputs.now ≤ 512) }
     requires small { All (λ input. length (object_of input).bytes < 2 ^ 32) inputs.now }
     ensures gathered { IfOk result (λ read. Gathers before (map object_of inputs.now) (Ok read.entries)) }
-    ensures lent { IfOk result (λ read. IsTrue lending → LendsAll read.sources.functions (functions_of (item_of_first before) (map object_of inputs.now))) }
+    ensures lent { IfOk result (λ read. IsTrue lending → LendsAll read.descriptions.functions (functions_of (item_of_first before) (map object_of inputs.now))) }
     ensures machine { IfOk result (λ read. HaveMachine before (map object_of inputs.now) read.arch) }
     ensures sound { IfOk result (λ read. All (IsSound read.arch) read.entries) }
     ensures checked { IfOk result (λ read. functions_fault read.entries ≡ None) }
@@ -67,7 +67,7 @@ pub fn ordered<'a>(
     Ok(ReadInOrder {
         arch,
         entries,
-        sources: held.sources,
+        descriptions: held.descriptions,
     })
 }
 
@@ -105,7 +105,7 @@ pub fn gather_together<'a>(
     ensures answered { IfErr result (λ fault. IsTrue (is_gather_answered fault)) }
 {
     let read = ordered(alloc, inputs, before, false)?;
-    Ok(read.entries.part(alloc, read.arch, read.sources)?)
+    Ok(read.entries.part(alloc, read.arch, read.descriptions)?)
 }
 
 /// Gathers the functions of 1 to 512 inputs as [`gather_together`] does, and lends the omitted ones as their
@@ -114,7 +114,7 @@ pub fn gather_together<'a>(
 /// # Errors
 ///
 /// Those of [`gather`](crate::gather).
-pub fn gather_with_sources<'a>(
+pub fn gather_with_descriptions<'a>(
     alloc: Global,
     inputs: &[Input<'a>],
     before: Option<Arch>,
@@ -122,8 +122,8 @@ pub fn gather_with_sources<'a>(
     requires some { (0 < length inputs.now) × (length inputs.now ≤ 512) }
     requires small { All (λ input. length (object_of input).bytes < 2 ^ 32) inputs.now }
     // The functions are those of the inputs by rising start, one section can hold the kept ones, and the
-    // sources are the omitted ones, one for each in the same order.
-    ensures gathered { IfOk result (λ g. AreWithSources before (map object_of inputs.now) g.arch (map (stored_in g.rows) g.kept) g.omitted.items g.sources.functions) }
+    // descriptions are the omitted ones, one for each in the same order.
+    ensures gathered { IfOk result (λ g. AreWithDescriptions before (map object_of inputs.now) g.arch (map (stored_in g.rows) g.kept) g.omitted.items g.descriptions.functions) }
     // The rows of the kept functions are those of the list.
     ensures stored { IfOk result (λ g. All (IsStored g.rows) g.kept) }
     // All items have this machine.
@@ -133,6 +133,6 @@ pub fn gather_with_sources<'a>(
     ensures answered { IfErr result (λ fault. IsTrue (is_gather_answered fault)) }
 {
     let mut read = ordered(alloc, inputs, before, true)?;
-    read.sources.sort()?;
-    Ok(read.entries.part(alloc, read.arch, read.sources)?)
+    read.descriptions.sort()?;
+    Ok(read.entries.part(alloc, read.arch, read.descriptions)?)
 }

@@ -14,8 +14,8 @@ ghost use Rattle.elf_groups.specs.SeenSignatures.{HasSeen};
 use crate::fault::GatherFault;
 use crate::input::Input;
 use crate::reading::read_input;
-use frame_functions::{AsmFault, ReadFunctions};
 use elf_groups::SeenSignatures;
+use frame_functions::{AsmFault, ReadFunctions};
 use sf_model::Arch;
 use std::alloc::Global;
 

@@ -1,12 +1,10 @@
-//! From call frame sections to SFrame functions, and to a section of one input.
+//! The functions of inputs: in order, for one machine, within the limits, without overlaps; and the section of one input.
 //!
-//! [`gather_together`] reads the records of 1 to 512 inputs, runs the instructions of each frame description entry and
-//! sorts out what SFrame Version 2 can express: the functions that are kept, by rising start, with one list of their
-//! rows, and the omitted functions, with their reasons. [`gather_with_sources`] also lends the omitted functions as their
-//! records describe them; what the functions of one common information entry share is held once. [`content_pieces`] runs
-//! the instructions of one of them. An input is a bare section, an ELF file, or one that was checked by its parts
-//! ([`InputBytes`]), of fewer than 2^32 bytes. All allocate; no section is copied. While a function is read, its rows are
-//! held as bytes.
+//! [`gather_together`] reads the call frame sections of 1 to 512 inputs (`frame_functions::read_section`) and returns the
+//! functions that SFrame Version 2 can express, by rising start, with one list of their rows, and the omitted functions
+//! with their reasons. [`gather_with_descriptions`] also lends the omitted functions as their records describe them. An input
+//! is a bare section, an ELF file, or one that was checked by its parts ([`InputBytes`]), of fewer than 2^32 bytes.
+//! [`link_gathered`] makes the section of such functions. All allocate; no section is copied.
 //!
 //! [`kept_functions_recover_alike`], [`walks_are_alike`], [`linking_comes_to_one_result`],
 //! [`accepted_inputs_are_linked`] and [`inputs_that_can_be_gathered_are`] are laws: the kept functions recover
@@ -31,7 +29,7 @@ mod overlaps;
 mod reading;
 
 pub use fault::{GatherFault, LinkFault};
-pub use gathering::{gather_together, gather_with_sources};
+pub use gathering::{gather_together, gather_with_descriptions};
 pub use input::{Input, InputBytes};
 pub use laws::{
     accepted_inputs_are_linked, functions_are_described, inputs_that_can_be_gathered_are,

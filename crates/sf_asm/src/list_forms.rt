@@ -1,34 +1,35 @@
-//! List forms: what other crates make of inputs as one section, or without lists, as lists of functions. No program calls
-//! them.
+//! The functions of inputs as lists, the section of one input, and the row at an address. No command calls these.
 
 ghost use Rattle.std.specs.Prelude.{◌≡◌, ◌≤◌, ◌<◌, ◌+◌, ◌^◌, ◌&&◌, All, List, [], ◌∷◌, Ok, None, length, map, nat_le, nat_lt, IfOk, IfErr, IsTrue};
 ghost use Rattle.std.specs.List.{find};
 ghost use Rattle.std.specs.Option.{option_map};
 ghost use Rattle.sf_model.specs.Function.{AreWritable};
 ghost use Rattle.sf_model.specs.Lookup.{contains};
-ghost use Rattle.sf_express.specs.Pieces.{ArePieces, AreSaidBy, piece_of_row};
+ghost use Rattle.sf_express.specs.ContentRanges.{AreRanges, AreSaidBy, range_of_row};
 ghost use Rattle.sf_asm.specs.declared.fault.GatherFault.TheVariants as gather_fault;
 ghost use Rattle.sf_asm.specs.Accepted.{CanBeGathered};
 ghost use Rattle.sf_asm.specs.Answers.{AreGathered, IsAssembled, IsFirstGathered, IsFirstLinked};
 ghost use Rattle.frame_functions.specs.ContentAt.{RowAt, SaysUpTo, form_content, said_in};
 ghost use Rattle.sf_asm.specs.Described.{Describe};
-ghost use Rattle.frame_functions.specs.Entry.{kept_by_item, omitted_of, spans_of};
+ghost use Rattle.frame_functions.specs.ReadFunction.{kept_by_item, omitted_of, spans_of};
 ghost use Rattle.frame_functions.specs.Functions.{holds_address, Function};
 ghost use Rattle.sf_asm.specs.Fault.{is_answered, is_gather_answered};
 ghost use Rattle.sf_asm.specs.Functions.{object_of};
 ghost use Rattle.sf_asm.specs.Inputs.{HaveMachine};
-ghost use Rattle.frame_functions.specs.Sources.{source_function};
-ghost use Rattle.sf_asm.specs.Sources.{AreWithSources};
+ghost use Rattle.frame_functions.specs.Descriptions.{described_function};
+ghost use Rattle.sf_asm.specs.Descriptions.{AreWithDescriptions};
 ghost use Rattle.sf_write.specs.Stored.{IsStored, stored_in};
 
 use crate::fault::{GatherFault, LinkFault};
-use crate::gathering::{first_item, gather_together, gather_with_sources, ordered};
+use crate::gathering::{first_item, gather_together, gather_with_descriptions, ordered};
 use crate::input::Input;
 use crate::linked::{Linked, link_gathered};
-use frame_functions::{Entries, Head, InputFunctions, Source, Sources, content_pieces};
 use cfa_machine::Runner;
+use frame_functions::{
+    Description, Descriptions, FunctionList, InputFunctions, ListedFunction, content_ranges,
+};
 use sf_base::NoMemory;
-use sf_express::{Piece, piece_at, pieces_of_rows};
+use sf_express::{ContentRange, range_at, ranges_of_rows};
 use sf_functions::FunctionsWithRows;
 use sf_model::{Arch, Content, Func, Key, Omitted, Span};
 use sf_write::{StoredList, StoredRows};
@@ -65,7 +66,7 @@ fn sort_out(
     arch: Arch,
     first: u32,
     count: usize,
-    entries: &Entries,
+    entries: &FunctionList,
 ) -> Result<Gathered, AllocError>
     requires { All (λ entry. (first ≤ entry.span.origin.item) × (entry.span.origin.item < first + count)) entries.now }
     ensures arch { IfOk result (λ g. g.arch ≡ arch) }
@@ -168,27 +169,33 @@ fn kept_at(kept: &[Func], pc: u64) -> Option<&Func>
 }
 
 /// Finds the omitted function that has an address.
-fn omitted_at<'a>(sources: &Sources<'a>, pc: u64) -> Option<Source<'a>>
-    ensures { option_map source_function result ≡ find (holds_address pc) sources.now.functions }
+fn omitted_at<'a>(descriptions: &Descriptions<'a>, pc: u64) -> Option<Description<'a>>
+    ensures { option_map described_function result ≡ find (holds_address pc) descriptions.now.functions }
 {
-    for number in 0..sources.len() {
-        if has_address(sources.start(number), sources.size(number), pc) {
-            return Some(sources.get(number));
+    for number in 0..descriptions.len() {
+        if has_address(descriptions.start(number), descriptions.size(number), pc) {
+            return Some(descriptions.get(number));
         }
     }
     None
 }
 
-/// Returns the content that a function's pieces have at one of its addresses, and the last of its addresses up to which it
+/// Returns the content that a function's ranges have at one of its addresses, and the last of its addresses up to which it
 /// stays the same.
-fn row_in(pieces: &[Piece], start: u64, size: u64, key: Key, pc: u64) -> Option<(Content, Key, u64)>
+fn row_in(
+    ranges: &[ContentRange],
+    start: u64,
+    size: u64,
+    key: Key,
+    pc: u64,
+) -> Option<(Content, Key, u64)>
     requires from { start ≤ pc }
     requires to { pc < start + size }
     requires end { start + size ≤ 2 ^ 64 }
-    requires pieces { ArePieces size pieces.now }
-    ensures { (f : Function) → f.start ≡ start → f.size ≡ size → f.key ≡ key → AreSaidBy size (form_content f) pieces.now → SaysUpTo (λ p. said_in p f) f pc result }
+    requires ranges { AreRanges size ranges.now }
+    ensures { (f : Function) → f.start ≡ start → f.size ≡ size → f.key ≡ key → AreSaidBy size (form_content f) ranges.now → SaysUpTo (λ p. said_in p f) f pc result }
 {
-    let (content, last) = piece_at(pieces, size, pc - start);
+    let (content, last) = range_at(ranges, size, pc - start);
     Some((content?, key, start + last))
 }
 
@@ -197,26 +204,26 @@ fn kept_row(alloc: Global, func: &Func, pc: u64) -> Result<Option<(Content, Key,
     requires from { func.now.start ≤ pc }
     requires to { pc < func.now.start + func.now.size }
     requires end { func.now.start + func.now.size ≤ 2 ^ 64 }
-    requires pieces { ArePieces func.now.size (map piece_of_row func.now.rows) }
-    ensures { IfOk result (λ row. (f : Function) → f.start ≡ func.now.start → f.size ≡ func.now.size → f.key ≡ func.now.key → AreSaidBy func.now.size (form_content f) (map piece_of_row func.now.rows) → SaysUpTo (λ p. said_in p f) f pc row) }
+    requires ranges { AreRanges func.now.size (map range_of_row func.now.rows) }
+    ensures { IfOk result (λ row. (f : Function) → f.start ≡ func.now.start → f.size ≡ func.now.size → f.key ≡ func.now.key → AreSaidBy func.now.size (form_content f) (map range_of_row func.now.rows) → SaysUpTo (λ p. said_in p f) f pc row) }
 {
-    let pieces = pieces_of_rows(alloc, func.rows.as_slice())?;
-    Ok(row_in(&pieces, func.start, u64::from(func.size), func.key, pc))
+    let ranges = ranges_of_rows(alloc, func.rows.as_slice())?;
+    Ok(row_in(&ranges, func.start, u64::from(func.size), func.key, pc))
 }
 
 /// Returns the same of an omitted function, by its instructions.
 fn omitted_row(
     alloc: Global,
-    source: &Source<'_>,
+    description: &Description<'_>,
     pc: u64,
 ) -> Result<Option<(Content, Key, u64)>, NoMemory>
-    requires from { source.now.facts.start ≤ pc }
-    requires to { pc < source.now.facts.start + source.now.facts.size }
-    ensures { IfOk result (λ row. SaysUpTo (λ p. said_in p (source_function source.now)) (source_function source.now) pc row) }
+    requires from { description.now.facts.start ≤ pc }
+    requires to { pc < description.now.facts.start + description.now.facts.size }
+    ensures { IfOk result (λ row. SaysUpTo (λ p. said_in p (described_function description.now)) (described_function description.now) pc row) }
 {
-    let facts = source.facts;
-    let pieces = content_pieces(alloc, source, &mut Runner::new())?;
-    Ok(row_in(&pieces, facts.start, facts.size, facts.key, pc))
+    let facts = description.facts;
+    let ranges = content_ranges(alloc, description, &mut Runner::new())?;
+    Ok(row_in(&ranges, facts.start, facts.size, facts.key, pc))
 }
 
 /// Returns the one fault of inputs that can be gathered.
@@ -234,10 +241,10 @@ fn gather_accepted<'a>(alloc: Global, inputs: &[Input<'a>]) -> Result<InputFunct
     requires some { (0 < length inputs.now) × (length inputs.now ≤ 512) }
     requires small { All (λ input. length (object_of input).bytes < 2 ^ 32) inputs.now }
     requires accepted { CanBeGathered None (map object_of inputs.now) }
-    ensures gathered { IfOk result (λ g. AreWithSources None (map object_of inputs.now) g.arch (map (stored_in g.rows) g.kept) g.omitted.items g.sources.functions) }
+    ensures gathered { IfOk result (λ g. AreWithDescriptions None (map object_of inputs.now) g.arch (map (stored_in g.rows) g.kept) g.omitted.items g.descriptions.functions) }
     ensures stored { IfOk result (λ g. All (IsStored g.rows) g.kept) }
 {
-    match gather_with_sources(alloc, inputs, None) {
+    match gather_with_descriptions(alloc, inputs, None) {
         Ok(gathered) => Ok(gathered),
         Err(fault) => Err(only_memory(fault)),
     }
@@ -247,7 +254,7 @@ fn gather_accepted<'a>(alloc: Global, inputs: &[Input<'a>]) -> Result<InputFunct
 fn functions(
     alloc: Global,
     rows: &StoredRows,
-    kept: &FunctionsWithRows<Head>,
+    kept: &FunctionsWithRows<ListedFunction>,
 ) -> Result<Vec<Func>, AllocError>
     requires { All (IsStored rows.now) kept.now }
     ensures { IfOk result (λ functions. functions.items ≡ map (stored_in rows.now) kept.now) }
@@ -283,8 +290,8 @@ pub fn row_at(
     if let Some(func) = kept_at(&kept, pc) {
         return kept_row(alloc, func, pc);
     }
-    match omitted_at(&gathered.sources, pc) {
-        Some(source) => omitted_row(alloc, &source, pc),
+    match omitted_at(&gathered.descriptions, pc) {
+        Some(description) => omitted_row(alloc, &description, pc),
         None => Ok(None),
     }
 }

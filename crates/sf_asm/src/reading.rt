@@ -9,8 +9,8 @@ ghost use Rattle.elf_groups.specs.SeenSignatures.{HasSeen};
 
 use crate::elf::{read_file, read_linked};
 use crate::input::{Input, InputBytes};
-use frame_functions::{AsmFault, CallFrameSection, ReadFunctions, read_section};
 use elf_groups::SeenSignatures;
+use frame_functions::{AsmFault, CallFrameSection, ReadFunctions, read_section};
 use sf_model::Arch;
 use std::alloc::Global;
 

@@ -15,7 +15,7 @@ pub record StaysOpen {S : Type 0} (files : Ghosts S) (before after : S) : Type 0
   pub may_open : files.may_open after ≡ files.may_open before
   pub may_create : files.may_create after ≡ files.may_create before
 
--- the open file was read in vain: either a read failed, of which the count of faults and the name of the file tell, or memory ran out
+-- the open file was read in vain: a read failed, which the count of faults and the name of the file tell, or memory ran out
 pub record StopsReading {S : Type 0} (files : Ghosts S) (before after : S) (fault : LoadFault) : Type 0 where
   pub may_open : files.may_open after ≡ files.may_open before
   pub may_create : files.may_create after ≡ files.may_create before

@@ -10,4 +10,4 @@ pub mod Found
 pub mod Running
 pub mod Said
 pub mod Column
-pub mod AsPieces
+pub mod AsRanges

@@ -1,4 +1,4 @@
--- Pieces have at each offset the content of the rows.
+-- ContentRanges have at each offset the content of the rows.
 use Rattle.std.specs.List.{All}
 use Rattle.std.specs.Option.{option_map}
 use Rattle.std.proofs.Common.{◌≡◌, ℕ, zero, suc, ◌+◌, ◌<◌, ◌≤◌, Bool, true, false, cond, List, [], ◌∷◌, ◌++◌, get_or, length, Option, Some, None, Result, Ok, Err, refl, sym, ap, subst, ◌∙◌, arith, inl, inr}
@@ -15,74 +15,74 @@ use Rattle.cfa_machine.specs.RowAtOffset.{latest_at}
 use Rattle.cfa_machine.specs.Columns.{row_from}
 use Rattle.cfa_machine.specs.Left.{behind_row}
 use Rattle.cfa_machine.specs.RowList.{AreRows, BeginAtZero, RiseFrom}
-use Rattle.sf_express.specs.declared.pieces.Piece.{Piece}
+use Rattle.sf_express.specs.declared.content_ranges.ContentRange.{ContentRange}
 use Rattle.sf_express.specs.Offsets.{said}
 use Rattle.sf_express.specs.Rules.{content_of}
-use Rattle.sf_express.specs.Pieces.{ArePieces, AreSaidBy, PiecesBegin, PiecesDiffer, PiecesRise, PiecesSay, content_in, piece_of, pieces_of, said_by, same_saying, says_again, unless_again}
+use Rattle.sf_express.specs.ContentRanges.{AreRanges, AreSaidBy, RangesBegin, RangesDiffer, RangesRise, RangesSay, content_in, range_of, ranges_of, said_by, same_saying, says_again, unless_again}
 use Rattle.sf_express.specs.Run.{on_rows}
 use Rattle.sf_express.specs.Runs.{AreSaid, Saying}
 use Rattle.sf_express.proofs.Changes.{content_itself}
 use Rattle.sf_express.proofs.Same.{content_same}
 
--- ---- consecutive pieces
-abbrev pub pieces_and_left : Arch → List Piece → Option (Option Content) → Result (List DwRow) MachineFault → Result (List Piece) MachineFault
-pieces_and_left arch before last left = on_rows (λ rows. before ++ pieces_of arch last rows) left
+-- ---- consecutive ranges
+abbrev pub ranges_and_left : Arch → List ContentRange → Option (Option Content) → Result (List DwRow) MachineFault → Result (List ContentRange) MachineFault
+ranges_and_left arch before last left = on_rows (λ rows. before ++ ranges_of arch last rows) left
 
-regroup : (before : List Piece) (last : Option (Option Content)) (p : Piece) (rest : List Piece) → before ++ unless_again last p rest ≡ (before ++ unless_again last p []) ++ rest
+regroup : (before : List ContentRange) (last : Option (Option Content)) (p : ContentRange) (rest : List ContentRange) → before ++ unless_again last p rest ≡ (before ++ unless_again last p []) ++ rest
 regroup before last p rest = at_test (says_again last p.content)
   where
-    again : (before : List Piece) → before ++ rest ≡ (before ++ []) ++ rest
-    again before = ap (λ (ps : List Piece). ps ++ rest) (sym (append-nil before))
+    again : (before : List ContentRange) → before ++ rest ≡ (before ++ []) ++ rest
+    again before = ap (λ (ps : List ContentRange). ps ++ rest) (sym (append-nil before))
 
-    new : (before : List Piece) → before ++ (p ∷ rest) ≡ (before ++ (p ∷ [])) ++ rest
+    new : (before : List ContentRange) → before ++ (p ∷ rest) ≡ (before ++ (p ∷ [])) ++ rest
     new [] = refl
-    new (x ∷ xs) = ap (λ (ps : List Piece). x ∷ ps) (new xs)
+    new (x ∷ xs) = ap (λ (ps : List ContentRange). x ∷ ps) (new xs)
 
     at_test : (b : Bool) → before ++ cond b rest (p ∷ rest) ≡ (before ++ cond b [] (p ∷ [])) ++ rest
     at_test true = again before
     at_test false = new before
 
-row_goes_on : (arch : Arch) (before now : List Piece) (last : Option (Option Content)) (start : ℕ) (c : Columns) (content : Option Content) (after : Result (List DwRow) MachineFault)
+row_goes_on : (arch : Arch) (before now : List ContentRange) (last : Option (Option Content)) (start : ℕ) (c : Columns) (content : Option Content) (after : Result (List DwRow) MachineFault)
     → content_in (content_of arch (row_from start c)) ≡ content → now ≡ before ++ unless_again last (record { start = start; content = content }) []
-    → pieces_and_left arch before last (behind_row start c after) ≡ pieces_and_left arch now (Some content) after
-unfolding pieces_of
+    → ranges_and_left arch before last (behind_row start c after) ≡ ranges_and_left arch now (Some content) after
+unfolding ranges_of
 row_goes_on arch before now last start c content (Ok rows) said grown =
-    rw (said, grown) (ap (λ (ps : List Piece). Ok ps) (regroup before last (record { start = start; content = content }) (pieces_of arch (Some content) rows)))
+    rw (said, grown) (ap (λ (ps : List ContentRange). Ok ps) (regroup before last (record { start = start; content = content }) (ranges_of arch (Some content) rows)))
 row_goes_on arch before now last start c content (Err e) said grown = refl
 
-pub goes_on : (arch : Arch) (before now : List Piece) (last : Option (Option Content)) (start : ℕ) (c : Columns) (content : Option Content) (left after : Result (List DwRow) MachineFault) (whole : Result (List Piece) MachineFault)
+pub goes_on : (arch : Arch) (before now : List ContentRange) (last : Option (Option Content)) (start : ℕ) (c : Columns) (content : Option Content) (left after : Result (List DwRow) MachineFault) (whole : Result (List ContentRange) MachineFault)
     → left ≡ behind_row start c after → content ≡ content_in (content_of arch (row_from start c)) → now ≡ before ++ unless_again last (record { start = start; content = content }) []
-    → pieces_and_left arch before last left ≡ whole → pieces_and_left arch now (Some content) after ≡ whole
+    → ranges_and_left arch before last left ≡ whole → ranges_and_left arch now (Some content) after ≡ whole
 goes_on arch before now last start c content left after whole next said grown so_far =
-    sym (row_goes_on arch before now last start c content after (sym said) grown) ∙ (ap (pieces_and_left arch before last) (sym next) ∙ so_far)
+    sym (row_goes_on arch before now last start c content after (sym said) grown) ∙ (ap (ranges_and_left arch before last) (sym next) ∙ so_far)
 
-pub is_done : (arch : Arch) (before : List Piece) (last : Option (Option Content)) (left : Result (List DwRow) MachineFault) (whole : Result (List Piece) MachineFault) → left ≡ Ok []
-    → pieces_and_left arch before last left ≡ whole → whole ≡ Ok before
-unfolding pieces_of
+pub is_done : (arch : Arch) (before : List ContentRange) (last : Option (Option Content)) (left : Result (List DwRow) MachineFault) (whole : Result (List ContentRange) MachineFault) → left ≡ Ok []
+    → ranges_and_left arch before last left ≡ whole → whole ≡ Ok before
+unfolding ranges_of
 is_done arch before last left whole none so_far =
-    let here : pieces_and_left arch before last left ≡ Ok before = rw none (ap (λ (ps : List Piece). Ok ps) (append-nil before)) in
+    let here : ranges_and_left arch before last left ≡ Ok before = rw none (ap (λ (ps : List ContentRange). Ok ps) (append-nil before)) in
     sym so_far ∙ here
 
 -- ---- their contents
-rise_lower : (low high : ℕ) (pieces : List Piece) → low ≤ high → PiecesRise high pieces → PiecesRise low pieces
+rise_lower : (low high : ℕ) (ranges : List ContentRange) → low ≤ high → RangesRise high ranges → RangesRise low ranges
 rise_lower low high [] le h = tt
-rise_lower low high (p ∷ pieces) le h = (omega (arith, le, h.0), h.1)
+rise_lower low high (p ∷ ranges) le h = (omega (arith, le, h.0), h.1)
 
-unless_rises : (b : Bool) (least : ℕ) (p : Piece) (rest : List Piece) → least ≤ p.start → PiecesRise (p.start + 1) rest → PiecesRise least (cond b rest (p ∷ rest))
+unless_rises : (b : Bool) (least : ℕ) (p : ContentRange) (rest : List ContentRange) → least ≤ p.start → RangesRise (p.start + 1) rest → RangesRise least (cond b rest (p ∷ rest))
 unless_rises true least p rest le h = rise_lower least (p.start + 1) rest (omega (arith, le)) h
 unless_rises false least p rest le h = (le, h)
 
-pub pieces_rise : (arch : Arch) (least : ℕ) (last : Option (Option Content)) (rows : List DwRow) → RiseFrom least rows → PiecesRise least (pieces_of arch last rows)
-unfolding pieces_of
-pieces_rise arch least last [] h = tt
-pieces_rise arch least last (r ∷ rows) h =
-    unless_rises (says_again last (content_in (content_of arch r))) least (piece_of arch r) (pieces_of arch (Some (content_in (content_of arch r))) rows) h.0
-    (pieces_rise arch (r.start + 1) (Some (content_in (content_of arch r))) rows h.1)
+pub ranges_rise : (arch : Arch) (least : ℕ) (last : Option (Option Content)) (rows : List DwRow) → RiseFrom least rows → RangesRise least (ranges_of arch last rows)
+unfolding ranges_of
+ranges_rise arch least last [] h = tt
+ranges_rise arch least last (r ∷ rows) h =
+    unless_rises (says_again last (content_in (content_of arch r))) least (range_of arch r) (ranges_of arch (Some (content_in (content_of arch r))) rows) h.0
+    (ranges_rise arch (r.start + 1) (Some (content_in (content_of arch r))) rows h.1)
 
--- pieces that begin after an offset have nothing there
-said_past : (o least : ℕ) (found : Option (Option Content)) (pieces : List Piece) → o < least → PiecesRise least pieces → said_by o found pieces ≡ found
+-- ranges that begin after an offset have nothing there
+said_past : (o least : ℕ) (found : Option (Option Content)) (ranges : List ContentRange) → o < least → RangesRise least ranges → said_by o found ranges ≡ found
 said_past o least found [] lt h = refl
-said_past o least found (p ∷ pieces) lt h = rw (lt-leb p.start o (omega (arith, lt, h.0))) refl
+said_past o least found (p ∷ ranges) lt h = rw (lt-leb p.start o (omega (arith, lt, h.0))) refl
 
 row_past : (o least : ℕ) (found : Option DwRow) (rows : List DwRow) → o < least → RiseFrom least rows → latest_at o found rows ≡ found
 row_past o least found [] lt h = refl
@@ -104,63 +104,63 @@ again_is : (last : Option (Option Content)) (content : Option Content) → says_
 again_is None content e = cc
 again_is (Some last) content e = ap (λ (x : Option Content). Some x) (same_is last content e)
 
-pub pieces_said : (arch : Arch) (o least : ℕ) (found : Option DwRow) (last : Option (Option Content)) (rows : List DwRow) → RiseFrom least rows → last ≡ saying_of arch found
-    → said_by o last (pieces_of arch last rows) ≡ saying_of arch (latest_at o found rows)
-unfolding pieces_of
-pieces_said arch o least found last [] h e = e
-pieces_said arch o least found last (r ∷ rows) h e = elim (cases_lt o r.start) [
+pub ranges_said : (arch : Arch) (o least : ℕ) (found : Option DwRow) (last : Option (Option Content)) (rows : List DwRow) → RiseFrom least rows → last ≡ saying_of arch found
+    → said_by o last (ranges_of arch last rows) ≡ saying_of arch (latest_at o found rows)
+unfolding ranges_of
+ranges_said arch o least found last [] h e = e
+ranges_said arch o least found last (r ∷ rows) h e = elim (cases_lt o r.start) [
   | inl after ↦
-      let past = said_past o r.start last (pieces_of arch last (r ∷ rows)) after
-      (unless_rises (says_again last (content_in (content_of arch r))) r.start (piece_of arch r) (pieces_of arch (Some (content_in (content_of arch r))) rows) (omega arith) (pieces_rise arch (r.start + 1) (Some (content_in (content_of arch r))) rows h.1)) in
+      let past = said_past o r.start last (ranges_of arch last (r ∷ rows)) after
+      (unless_rises (says_again last (content_in (content_of arch r))) r.start (range_of arch r) (ranges_of arch (Some (content_in (content_of arch r))) rows) (omega arith) (ranges_rise arch (r.start + 1) (Some (content_in (content_of arch r))) rows h.1)) in
       let nothing : latest_at o found (r ∷ rows) ≡ found =
       ap (λ (b : Bool). latest_at o (cond b (Some r) found) rows) (lt-leb r.start o after) ∙ row_past o (r.start + 1) found rows (omega (arith, after)) h.1 in
       past ∙ e ∙ sym (ap (saying_of arch) nothing)
   | inr not_after ↦
       let by : r.start ≤ o = omega (arith, not_after) in
       let here : latest_at o found (r ∷ rows) ≡ latest_at o (Some r) rows = ap (λ (b : Bool). latest_at o (cond b (Some r) found) rows) (le-leb r.start o by) in
-      at_test (says_again last (content_in (content_of arch r))) refl by (pieces_said arch o (r.start + 1) (Some r) (Some (content_in (content_of arch r))) rows h.1 refl)
+      at_test (says_again last (content_in (content_of arch r))) refl by (ranges_said arch o (r.start + 1) (Some r) (Some (content_in (content_of arch r))) rows h.1 refl)
       ∙ sym (ap (saying_of arch) here)
 ]
   where
-    rest : List Piece
-    rest = pieces_of arch (Some (content_in (content_of arch r))) rows
+    rest : List ContentRange
+    rest = ranges_of arch (Some (content_in (content_of arch r))) rows
 
     at_test : (b : Bool) → says_again last (content_in (content_of arch r)) ≡ b → r.start ≤ o
-        → said_by o (Some (content_in (content_of arch r))) (pieces_of arch (Some (content_in (content_of arch r))) rows) ≡ saying_of arch (latest_at o (Some r) rows)
-        → said_by o last (cond b (pieces_of arch (Some (content_in (content_of arch r))) rows) (piece_of arch r ∷ pieces_of arch (Some (content_in (content_of arch r))) rows)) ≡ saying_of arch (latest_at o (Some r) rows)
+        → said_by o (Some (content_in (content_of arch r))) (ranges_of arch (Some (content_in (content_of arch r))) rows) ≡ saying_of arch (latest_at o (Some r) rows)
+        → said_by o last (cond b (ranges_of arch (Some (content_in (content_of arch r))) rows) (range_of arch r ∷ ranges_of arch (Some (content_in (content_of arch r))) rows)) ≡ saying_of arch (latest_at o (Some r) rows)
     at_test true t by later =
-        ap (λ (x : Option (Option Content)). said_by o x (pieces_of arch (Some (content_in (content_of arch r))) rows)) (again_is last (content_in (content_of arch r)) t) ∙ later
+        ap (λ (x : Option (Option Content)). said_by o x (ranges_of arch (Some (content_in (content_of arch r))) rows)) (again_is last (content_in (content_of arch r)) t) ∙ later
     at_test false t by later = rw (le-leb r.start o by) later
 
 saying_said : (arch : Arch) (found : Option DwRow) (says : Result Content Reason) → said arch found ≡ Some says → saying_of arch found ≡ Some (content_in says)
 saying_said arch None says e = cc
 saying_said arch (Some r) says e = let is : content_of arch r ≡ says = cc in ap (λ (x : Result Content Reason). Some (content_in x)) is
 
-pub pieces_say : (arch : Arch) (size : ℕ) (rows : List DwRow) (says : Saying) → RiseFrom 0 rows → AreSaid arch size rows says → PiecesSay size (pieces_of arch None rows) (λ o. content_in (says o))
-pieces_say arch size rows says h are = λ o lt. pieces_said arch o 0 None None rows h refl ∙ saying_said arch (latest_at o None rows) (says o) (are o lt)
+pub ranges_say : (arch : Arch) (size : ℕ) (rows : List DwRow) (says : Saying) → RiseFrom 0 rows → AreSaid arch size rows says → RangesSay size (ranges_of arch None rows) (λ o. content_in (says o))
+ranges_say arch size rows says h are = λ o lt. ranges_said arch o 0 None None rows h refl ∙ saying_said arch (latest_at o None rows) (says o) (are o lt)
 
--- ---- which pieces they are
-pieces_begin : (arch : Arch) (rows : List DwRow) → 0 < length rows → BeginAtZero rows → PiecesBegin (pieces_of arch None rows)
-unfolding pieces_of
-pieces_begin arch [] some h = absurd (omega (arith, some))
-pieces_begin arch (r ∷ rows) some h = h
+-- ---- which ranges they are
+ranges_begin : (arch : Arch) (rows : List DwRow) → 0 < length rows → BeginAtZero rows → RangesBegin (ranges_of arch None rows)
+unfolding ranges_of
+ranges_begin arch [] some h = absurd (omega (arith, some))
+ranges_begin arch (r ∷ rows) some h = h
 
-unless_below : (b : Bool) (size : ℕ) (p : Piece) (rest : List Piece) → p.start < size → All (λ (p : Piece). p.start < size) rest → All (λ (p : Piece). p.start < size) (cond b rest (p ∷ rest))
+unless_below : (b : Bool) (size : ℕ) (p : ContentRange) (rest : List ContentRange) → p.start < size → All (λ (p : ContentRange). p.start < size) rest → All (λ (p : ContentRange). p.start < size) (cond b rest (p ∷ rest))
 unless_below true size p rest lt h = h
-unless_below false size p rest lt h = All-cons (λ (p : Piece). p.start < size) p rest lt h
+unless_below false size p rest lt h = All-cons (λ (p : ContentRange). p.start < size) p rest lt h
 
-pieces_below : (arch : Arch) (size : ℕ) (last : Option (Option Content)) (rows : List DwRow) → All (λ (r : DwRow). r.start < size) rows → All (λ (p : Piece). p.start < size) (pieces_of arch last rows)
-unfolding pieces_of
-pieces_below arch size last [] h = All-nil (λ (p : Piece). p.start < size)
-pieces_below arch size last (r ∷ rows) h =
-    unless_below (says_again last (content_in (content_of arch r))) size (piece_of arch r) (pieces_of arch (Some (content_in (content_of arch r))) rows)
-    (All-head (λ (x : DwRow). x.start < size) r rows h) (pieces_below arch size (Some (content_in (content_of arch r))) rows (All-tail (λ (x : DwRow). x.start < size) r rows h))
+ranges_below : (arch : Arch) (size : ℕ) (last : Option (Option Content)) (rows : List DwRow) → All (λ (r : DwRow). r.start < size) rows → All (λ (p : ContentRange). p.start < size) (ranges_of arch last rows)
+unfolding ranges_of
+ranges_below arch size last [] h = All-nil (λ (p : ContentRange). p.start < size)
+ranges_below arch size last (r ∷ rows) h =
+    unless_below (says_again last (content_in (content_of arch r))) size (range_of arch r) (ranges_of arch (Some (content_in (content_of arch r))) rows)
+    (All-head (λ (x : DwRow). x.start < size) r rows h) (ranges_below arch size (Some (content_in (content_of arch r))) rows (All-tail (λ (x : DwRow). x.start < size) r rows h))
 
-pub are_pieces : (arch : Arch) (size : ℕ) (rows : List DwRow) → 0 < size → AreRows arch size rows → ArePieces size (pieces_of arch None rows)
-are_pieces arch size rows some h = record {
-  first = pieces_begin arch rows (h.some some) h.first;
-  rise = pieces_rise arch 0 None rows h.rise;
-  below = pieces_below arch size None rows h.below;
+pub are_ranges : (arch : Arch) (size : ℕ) (rows : List DwRow) → 0 < size → AreRows arch size rows → AreRanges size (ranges_of arch None rows)
+are_ranges arch size rows some h = record {
+  first = ranges_begin arch rows (h.some some) h.first;
+  rise = ranges_rise arch 0 None rows h.rise;
+  below = ranges_below arch size None rows h.below;
 }
 
 -- ---- neighbours differ
@@ -175,65 +175,65 @@ not_again (Some last) content e is =
     let never : true ≡ false = sym (says_itself last) ∙ ap (same_saying last) one ∙ e in
     cc
 
-pub pieces_differ : (arch : Arch) (last : Option (Option Content)) (rows : List DwRow) → PiecesDiffer last (pieces_of arch last rows)
-unfolding pieces_of
-pieces_differ arch last [] = tt
-pieces_differ arch last (r ∷ rows) = at_test (says_again last (content_in (content_of arch r))) refl (pieces_differ arch (Some (content_in (content_of arch r))) rows)
+pub ranges_differ : (arch : Arch) (last : Option (Option Content)) (rows : List DwRow) → RangesDiffer last (ranges_of arch last rows)
+unfolding ranges_of
+ranges_differ arch last [] = tt
+ranges_differ arch last (r ∷ rows) = at_test (says_again last (content_in (content_of arch r))) refl (ranges_differ arch (Some (content_in (content_of arch r))) rows)
   where
-    at_test : (b : Bool) → says_again last (content_in (content_of arch r)) ≡ b → PiecesDiffer (Some (content_in (content_of arch r))) (pieces_of arch (Some (content_in (content_of arch r))) rows)
-        → PiecesDiffer last (cond b (pieces_of arch (Some (content_in (content_of arch r))) rows) (piece_of arch r ∷ pieces_of arch (Some (content_in (content_of arch r))) rows))
-    at_test true t rest = subst (λ (x : Option (Option Content)). PiecesDiffer x (pieces_of arch (Some (content_in (content_of arch r))) rows)) (sym (again_is last (content_in (content_of arch r)) t)) rest
+    at_test : (b : Bool) → says_again last (content_in (content_of arch r)) ≡ b → RangesDiffer (Some (content_in (content_of arch r))) (ranges_of arch (Some (content_in (content_of arch r))) rows)
+        → RangesDiffer last (cond b (ranges_of arch (Some (content_in (content_of arch r))) rows) (range_of arch r ∷ ranges_of arch (Some (content_in (content_of arch r))) rows))
+    at_test true t rest = subst (λ (x : Option (Option Content)). RangesDiffer x (ranges_of arch (Some (content_in (content_of arch r))) rows)) (sym (again_is last (content_in (content_of arch r)) t)) rest
     at_test false t rest = (not_again last (content_in (content_of arch r)) t, rest)
 
-pub are_said_by : (arch : Arch) (size : ℕ) (rows : List DwRow) (says : Saying) → 0 < size → AreRows arch size rows → AreSaid arch size rows says → AreSaidBy size (λ o. content_in (says o)) (pieces_of arch None rows)
+pub are_said_by : (arch : Arch) (size : ℕ) (rows : List DwRow) (says : Saying) → 0 < size → AreRows arch size rows → AreSaid arch size rows says → AreSaidBy size (λ o. content_in (says o)) (ranges_of arch None rows)
 are_said_by arch size rows says some h said = record {
-  are = are_pieces arch size rows some h;
-  say = pieces_say arch size rows says h.rise said;
-  differ = pieces_differ arch None rows;
+  are = are_ranges arch size rows some h;
+  say = ranges_say arch size rows says h.rise said;
+  differ = ranges_differ arch None rows;
 }
 
--- ---- the piece at a place
-first_least : (least : ℕ) (pieces : List Piece) (i : ℕ) (d : Piece) → PiecesRise least pieces → i < length pieces → least ≤ (get_or pieces i d).start
+-- ---- the range at a place
+first_least : (least : ℕ) (ranges : List ContentRange) (i : ℕ) (d : ContentRange) → RangesRise least ranges → i < length ranges → least ≤ (get_or ranges i d).start
 first_least least [] i d h lt = absurd (omega (arith, lt))
-first_least least (p ∷ pieces) zero d h lt = h.0
-first_least least (p ∷ pieces) (suc i) d h lt = let later = first_least (p.start + 1) pieces i d h.1 (omega (arith, lt)) in omega (arith, later, h.0)
+first_least least (p ∷ ranges) zero d h lt = h.0
+first_least least (p ∷ ranges) (suc i) d h lt = let later = first_least (p.start + 1) ranges i d h.1 (omega (arith, lt)) in omega (arith, later, h.0)
 
-pub said_at_place : (o least i : ℕ) (found : Option (Option Content)) (pieces : List Piece) (d : Piece) → PiecesRise least pieces → i < length pieces → (get_or pieces i d).start ≤ o
-    → (i + 1 < length pieces → o < (get_or pieces (i + 1) d).start) → said_by o found pieces ≡ Some (get_or pieces i d).content
+pub said_at_place : (o least i : ℕ) (found : Option (Option Content)) (ranges : List ContentRange) (d : ContentRange) → RangesRise least ranges → i < length ranges → (get_or ranges i d).start ≤ o
+    → (i + 1 < length ranges → o < (get_or ranges (i + 1) d).start) → said_by o found ranges ≡ Some (get_or ranges i d).content
 said_at_place o least i found [] d h lt by before = absurd (omega (arith, lt))
 said_at_place o least zero found (p ∷ []) d h lt by before = rw (le-leb p.start o by) refl
-said_at_place o least zero found (p ∷ q ∷ pieces) d h lt by before =
+said_at_place o least zero found (p ∷ q ∷ ranges) d h lt by before =
     let after : o < q.start = before (omega arith) in
     rw (le-leb p.start o by, lt-leb q.start o after) refl
-said_at_place o least (suc i) found (p ∷ pieces) d h lt by before =
-    let there = first_least (p.start + 1) pieces i d h.1 (omega (arith, lt)) in
+said_at_place o least (suc i) found (p ∷ ranges) d h lt by before =
+    let there = first_least (p.start + 1) ranges i d h.1 (omega (arith, lt)) in
     let here : p.start ≤ o = omega (arith, there, by) in
     let same : suc i + 1 ≡ suc (i + 1) = omega arith in
-    rw (le-leb p.start o here) (said_at_place o (p.start + 1) i (Some p.content) pieces d h.1 (omega (arith, lt)) by
-    (λ more. subst (λ (k : ℕ). o < (get_or (p ∷ pieces) k d).start) same (before (omega (arith, more)))))
+    rw (le-leb p.start o here) (said_at_place o (p.start + 1) i (Some p.content) ranges d h.1 (omega (arith, lt)) by
+    (λ more. subst (λ (k : ℕ). o < (get_or (p ∷ ranges) k d).start) same (before (omega (arith, more)))))
 
-pub first_begins : (pieces : List Piece) (d : Piece) → PiecesBegin pieces → (get_or pieces 0 d).start ≡ 0
+pub first_begins : (ranges : List ContentRange) (d : ContentRange) → RangesBegin ranges → (get_or ranges 0 d).start ≡ 0
 first_begins [] d h = absurd h
-first_begins (p ∷ pieces) d h = h
+first_begins (p ∷ ranges) d h = h
 
-pub some_pieces : (pieces : List Piece) → PiecesBegin pieces → 0 < length pieces
-some_pieces [] h = absurd h
-some_pieces (p ∷ pieces) h = omega arith
+pub some_ranges : (ranges : List ContentRange) → RangesBegin ranges → 0 < length ranges
+some_ranges [] h = absurd h
+some_ranges (p ∷ ranges) h = omega arith
 
-pub next_after : (pieces : List Piece) (i : ℕ) (d : Piece) → PiecesRise 0 pieces → i + 1 < length pieces → (get_or pieces i d).start < (get_or pieces (i + 1) d).start
-next_after pieces i d h lt = go 0 pieces i h lt
+pub next_after : (ranges : List ContentRange) (i : ℕ) (d : ContentRange) → RangesRise 0 ranges → i + 1 < length ranges → (get_or ranges i d).start < (get_or ranges (i + 1) d).start
+next_after ranges i d h lt = go 0 ranges i h lt
   where
-    go : (least : ℕ) (pieces : List Piece) (i : ℕ) → PiecesRise least pieces → i + 1 < length pieces → (get_or pieces i d).start < (get_or pieces (i + 1) d).start
+    go : (least : ℕ) (ranges : List ContentRange) (i : ℕ) → RangesRise least ranges → i + 1 < length ranges → (get_or ranges i d).start < (get_or ranges (i + 1) d).start
     go least [] i h lt = absurd (omega (arith, lt))
-    go least (p ∷ pieces) zero h lt = let next = first_least (p.start + 1) pieces 0 d h.1 (omega (arith, lt)) in omega (arith, next)
-    go least (p ∷ pieces) (suc i) h lt =
+    go least (p ∷ ranges) zero h lt = let next = first_least (p.start + 1) ranges 0 d h.1 (omega (arith, lt)) in omega (arith, next)
+    go least (p ∷ ranges) (suc i) h lt =
         let same : suc (i + 1) ≡ suc i + 1 = omega arith in
-        subst (λ (k : ℕ). (get_or pieces i d).start < (get_or (p ∷ pieces) k d).start) same (go (p.start + 1) pieces i h.1 (omega (arith, lt)))
+        subst (λ (k : ℕ). (get_or ranges i d).start < (get_or (p ∷ ranges) k d).start) same (go (p.start + 1) ranges i h.1 (omega (arith, lt)))
 
-pub next_differs : (last : Option (Option Content)) (pieces : List Piece) (i : ℕ) (d : Piece) → PiecesDiffer last pieces → i + 1 < length pieces → (get_or pieces i d).content ≡ (get_or pieces (i + 1) d).content → ⊥
+pub next_differs : (last : Option (Option Content)) (ranges : List ContentRange) (i : ℕ) (d : ContentRange) → RangesDiffer last ranges → i + 1 < length ranges → (get_or ranges i d).content ≡ (get_or ranges (i + 1) d).content → ⊥
 next_differs last [] i d h lt same = absurd (omega (arith, lt))
 next_differs last (p ∷ []) i d h lt same = absurd (omega (arith, lt))
-next_differs last (p ∷ q ∷ pieces) zero d h lt same = h.1.0 (ap (λ (x : Option Content). Some x) same)
-next_differs last (p ∷ q ∷ pieces) (suc i) d h lt same =
+next_differs last (p ∷ q ∷ ranges) zero d h lt same = h.1.0 (ap (λ (x : Option Content). Some x) same)
+next_differs last (p ∷ q ∷ ranges) (suc i) d h lt same =
     let next : suc i + 1 ≡ suc (i + 1) = omega arith in
-    next_differs (Some p.content) (q ∷ pieces) i d h.1 (omega (arith, lt)) (same ∙ ap (λ (k : ℕ). (get_or (p ∷ q ∷ pieces) k d).content) next)
+    next_differs (Some p.content) (q ∷ ranges) i d h.1 (omega (arith, lt)) (same ∙ ap (λ (k : ℕ). (get_or (p ∷ q ∷ ranges) k d).content) next)

@@ -10,7 +10,7 @@ ghost use Rattle.sf_merge.specs.Merging.{fault_of_limit, limits_fault_in_all, ot
 
 use crate::fault::MergeFault;
 use crate::functions::LocatedFunctions;
-use crate::head::LocatedHead;
+use crate::head::LocatedFunction;
 use sf_decode::View;
 use sf_functions::{HasStart, Limit, exceeded, first_overlap};
 use sf_model::Arch;
@@ -69,7 +69,7 @@ pub fn check_limits(views: &[View<'_>]) -> Result<(), MergeFault>
 }
 
 /// Checks the head of each function against the one before it.
-fn check_heads(heads: &[LocatedHead]) -> Result<(), MergeFault>
+fn check_heads(heads: &[LocatedFunction]) -> Result<(), MergeFault>
     ensures { result ≡ unless (option_map shared_by_heads (neighbours.first_overlap head_start head_size heads.now)) }
 {
     match first_overlap(heads) {

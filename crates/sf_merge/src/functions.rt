@@ -7,7 +7,7 @@ ghost use Rattle.sf_merge.specs.Located.{located_start};
 ghost use Rattle.sf_write.specs.declared.stored.StoredFunction.{StoredFunction as stored_fact};
 ghost use Rattle.sf_write.specs.Stored.{IsStored, stored_in};
 
-use crate::head::{FunctionHead, LocatedHead};
+use crate::head::{LocatedFunction, StoredOrEmpty};
 use sf_base::NoMemory;
 use sf_functions::sort_by_start;
 use sf_model::{Arch, Func, FuncHead};
@@ -19,7 +19,7 @@ use std::marker::Model;
 /// its head is kept, and its rows are stored after those of the others.
 #[derive(Drop)]
 pub struct LocatedFunctions {
-    heads: Vec<LocatedHead>,
+    heads: Vec<LocatedFunction>,
     rows: StoredRows,
 }
 
@@ -37,13 +37,13 @@ impl Model for LocatedFunctions {
 
 /// Stores the rows of a function that has bytes, if it has any rows.
 #[inline(always)]
-fn store(rows: &mut StoredRows, arch: Arch, func: &Func) -> Result<FunctionHead, AllocError>
+fn store(rows: &mut StoredRows, arch: Arch, func: &Func) -> Result<StoredOrEmpty, AllocError>
     requires { IsStorable arch func.now }
     ensures stored { IfOk result (λ head. RowsAreStored rows.new head × (function_of_head rows.new head ≡ func.now)) }
     ensures keeps { (f : stored_fact) → IsStored rows.old f → IsStored rows.new f × (stored_in rows.new f ≡ stored_in rows.old f) }
 {
     if func.rows.as_slice().is_empty() {
-        return Ok(FunctionHead::WithoutRows(FuncHead {
+        return Ok(StoredOrEmpty::WithoutRows(FuncHead {
             start: func.start,
             size: func.size,
             shape: func.shape,
@@ -51,7 +51,7 @@ fn store(rows: &mut StoredRows, arch: Arch, func: &Func) -> Result<FunctionHead,
             rows: 0,
         }));
     }
-    Ok(FunctionHead::WithRows(rows.push(arch, func)?))
+    Ok(StoredOrEmpty::WithRows(rows.push(arch, func)?))
 }
 
 impl LocatedFunctions {
@@ -72,7 +72,7 @@ impl LocatedFunctions {
         ensures { OnOk result (self.new ≡ self.old ++ record { func = func.now; item = item; number = number } ∷ []) }
     {
         let head = store(&mut self.rows, arch, func)?;
-        self.heads.push(LocatedHead { head, item, number })?;
+        self.heads.push(LocatedFunction { head, item, number })?;
         Ok(())
     }
 
@@ -85,14 +85,14 @@ impl LocatedFunctions {
     }
 
     /// Returns the functions without their rows.
-    pub fn heads(&self) -> &[LocatedHead]
+    pub fn heads(&self) -> &[LocatedFunction]
         ensures { AreHeads result.now self.now }
     {
         self.heads.as_slice()
     }
 
     /// Returns the functions without their rows, and the rows of all.
-    pub fn into_parts(self) -> (Vec<LocatedHead>, StoredRows)
+    pub fn into_parts(self) -> (Vec<LocatedFunction>, StoredRows)
         ensures are { self ≡ all_in result.1 result.0.items }
         ensures stored { AllRowsAreStored result.1 result.0.items }
     {

@@ -10,22 +10,22 @@ use sf_write::StoredFunction;
 
 /// A function. Its rows, if it has any, are stored.
 #[derive(Clone, Copy)]
-pub enum FunctionHead {
+pub enum StoredOrEmpty {
     /// The function has rows.
     WithRows(StoredFunction),
     /// The function has no rows.
     WithoutRows(FuncHead),
 }
 
-impl FunctionHead {
+impl StoredOrEmpty {
     /// Returns the function without its rows.
     #[inline(always)]
     pub fn plain(&self) -> &FuncHead
         ensures { result.now ≡ plain_head self.now }
     {
         match self {
-            FunctionHead::WithRows(function) => &function.head,
-            FunctionHead::WithoutRows(head) => head,
+            StoredOrEmpty::WithRows(function) => &function.head,
+            StoredOrEmpty::WithoutRows(head) => head,
         }
     }
 
@@ -35,24 +35,24 @@ impl FunctionHead {
         ensures { option_map (λ f. f.now) result ≡ stored_head self.now }
     {
         match self {
-            FunctionHead::WithRows(function) => Some(function),
-            FunctionHead::WithoutRows(_) => None,
+            StoredOrEmpty::WithRows(function) => Some(function),
+            StoredOrEmpty::WithoutRows(_) => None,
         }
     }
 }
 
 /// A function of one of several sections. Its rows are stored.
 #[derive(Clone, Copy)]
-pub struct LocatedHead {
+pub struct LocatedFunction {
     /// The function.
-    pub head: FunctionHead,
+    pub head: StoredOrEmpty,
     /// The number of the function's section, from 0.
     pub item: u32,
     /// The number of the function's entry in the section, from 0.
     pub number: u32,
 }
 
-impl HasStart for LocatedHead {
+impl HasStart for LocatedFunction {
     ghost use Rattle.sf_merge.specs.Heads.{head_start};
 
     ghost first_address = { head_start };
@@ -63,7 +63,7 @@ impl HasStart for LocatedHead {
     }
 }
 
-impl HasSize for LocatedHead {
+impl HasSize for LocatedFunction {
     ghost use Rattle.sf_merge.specs.Heads.{head_size};
 
     ghost size_of = { head_size };
@@ -74,7 +74,7 @@ impl HasSize for LocatedHead {
     }
 }
 
-impl MayHaveRows for LocatedHead {
+impl MayHaveRows for LocatedFunction {
     ghost use Rattle.sf_merge.specs.Heads.{stored_at};
 
     ghost stored_at = { stored_at };

@@ -9,7 +9,7 @@ ghost use Rattle.sf_merge.specs.Merging.{merged_functions};
 use crate::checking::{check_limits, check_machines, check_overlap};
 use crate::fault::{MergeFault, write_fault};
 use crate::functions::LocatedFunctions;
-use crate::head::LocatedHead;
+use crate::head::LocatedFunction;
 use crate::reading::all_in_order;
 use sf_decode::View;
 use sf_functions::{FunctionsWithRows, count_rows};
@@ -17,7 +17,7 @@ use sf_write::{StoredList, StoredRows, write_stored};
 use std::alloc::Global;
 
 /// Returns the functions that hold an address and have a row, and their rows.
-fn written(ordered: LocatedFunctions) -> (FunctionsWithRows<LocatedHead>, StoredRows)
+fn written(ordered: LocatedFunctions) -> (FunctionsWithRows<LocatedFunction>, StoredRows)
     ensures stored { All (IsStored result.1) result.0 }
     ensures written { map (stored_in result.1) result.0 ≡ merged_functions ordered }
 {

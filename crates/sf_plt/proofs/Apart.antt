@@ -8,9 +8,9 @@ use Rattle.std.proofs.lemmas.Bool.Decides.{nat_tests}
 use Rattle.std.proofs.lemmas.List.Elements.{filter-append}
 use Rattle.sf_model.specs.declared.content.Content.{Content}
 use Rattle.sf_model.specs.declared.function.Func.{Func}
-use Rattle.frame_functions.specs.Entry.{kept_of}
+use Rattle.frame_functions.specs.ReadFunction.{kept_of}
 use Rattle.frame_functions.specs.Functions.{Function}
-use Rattle.frame_functions.specs.Kept.{entry_of}
+use Rattle.frame_functions.specs.Kept.{read_of}
 use Rattle.frame_functions.specs.Order.{are_apart}
 use Rattle.sf_model.proofs.StableOrder.{NoneBelow, tied, tied_means, one_order_of}
 use Rattle.sf_plt.specs.Plt.{plt_functions}
@@ -31,28 +31,28 @@ earlier a b (g ∷ gs) le h = (omega (arith, le, h.0), h.1)
 -- one function, and those after it
 pub record Goes (end : ℕ) (f : Function) (fs : List Function) : Type 0 where
   pub from : end ≤ f.start
-  pub on : are_apart (f.start + f.size) (map entry_of fs) ≡ true
+  pub on : are_apart (f.start + f.size) (map read_of fs) ≡ true
 
-pub sized_goes : (end : ℕ) (f : Function) (fs : List Function) → 0 < f.size → are_apart end (map entry_of (f ∷ fs)) ≡ true → Goes end f fs
+pub sized_goes : (end : ℕ) (f : Function) (fs : List Function) → 0 < f.size → are_apart end (map read_of (f ∷ fs)) ≡ true → Goes end f fs
 sized_goes end f fs some h =
     let t : eqb f.size 0 ≡ false = grind (arith, nat_tests) in
-    let rest : (leb end f.start && are_apart (f.start + f.size) (map entry_of fs)) ≡ true = sym (ap (λ (b : Bool). cond b (are_apart end (map entry_of fs)) (leb end f.start && are_apart (f.start + f.size) (map entry_of fs))) t) ∙ h in
-    let two = both (leb end f.start) (are_apart (f.start + f.size) (map entry_of fs)) rest in
+    let rest : (leb end f.start && are_apart (f.start + f.size) (map read_of fs)) ≡ true = sym (ap (λ (b : Bool). cond b (are_apart end (map read_of fs)) (leb end f.start && are_apart (f.start + f.size) (map read_of fs))) t) ∙ h in
+    let two = both (leb end f.start) (are_apart (f.start + f.size) (map read_of fs)) rest in
     record { from = leb-true end f.start two.0; on = two.1 }
 
 -- whatever its size
 pub record Later (end : ℕ) (fs : List Function) : Type 0 where
   pub least : ℕ
   pub above : end ≤ least
-  pub apart : are_apart least (map entry_of fs) ≡ true
+  pub apart : are_apart least (map read_of fs) ≡ true
 
-pub later_of : (end : ℕ) (f : Function) (fs : List Function) → are_apart end (map entry_of (f ∷ fs)) ≡ true → Later end fs
+pub later_of : (end : ℕ) (f : Function) (fs : List Function) → are_apart end (map read_of (f ∷ fs)) ≡ true → Later end fs
 later_of end f fs h = at_size (eqb f.size 0) refl h
   where
-    at_size : (b : Bool) → eqb f.size 0 ≡ b → cond b (are_apart end (map entry_of fs)) (leb end f.start && are_apart (f.start + f.size) (map entry_of fs)) ≡ true → Later end fs
+    at_size : (b : Bool) → eqb f.size 0 ≡ b → cond b (are_apart end (map read_of fs)) (leb end f.start && are_apart (f.start + f.size) (map read_of fs)) ≡ true → Later end fs
     at_size true t h = record { least = end; above = omega arith; apart = h }
     at_size false t h =
-        let two = both (leb end f.start) (are_apart (f.start + f.size) (map entry_of fs)) h in
+        let two = both (leb end f.start) (are_apart (f.start + f.size) (map read_of fs)) h in
         let le = leb-true end f.start two.0 in
         record { least = f.start + f.size; above = omega (arith, le); apart = two.1 }
 
@@ -60,11 +60,11 @@ table_sized : (f : Function) → IsTable f → 16 < f.size
 table_sized f h = (plt_form f h.table).above
 
 -- ---- what is written
-pub written_apart : (end : ℕ) (fs : List Function) → are_apart end (map entry_of fs) ≡ true → ApartFrom end (written_functions fs)
+pub written_apart : (end : ℕ) (fs : List Function) → are_apart end (map read_of fs) ≡ true → ApartFrom end (written_functions fs)
 written_apart end [] h = tt
 written_apart end (f ∷ fs) h = at_case (case_of f) (λ least apart. written_apart least fs apart)
   where
-    at_case : Case f → ((least : ℕ) → are_apart least (map entry_of fs) ≡ true → ApartFrom least (written_functions fs)) → ApartFrom end (written_functions (f ∷ fs))
+    at_case : Case f → ((least : ℕ) → are_apart least (map read_of fs) ≡ true → ApartFrom least (written_functions fs)) → ApartFrom end (written_functions (f ∷ fs))
     at_case (kept_case k) others =
         let goes = sized_goes end f fs k.sized h in
         subst (ApartFrom end) (sym (kept_lists f fs k).written_is) (goes.from, others (f.start + f.size) goes.on)
@@ -77,20 +77,20 @@ written_apart end (f ∷ fs) h = at_case (case_of f) (λ least apart. written_ap
         let later = later_of end f fs h in
         subst (ApartFrom end) (sym (other_lists f fs o).written_is) (earlier end later.least (written_functions fs) later.above (others later.least later.apart))
 
-pub kept_apart : (end : ℕ) (fs : List Function) → are_apart end (map entry_of fs) ≡ true → ApartFrom end (kept_of (map entry_of fs))
+pub kept_apart : (end : ℕ) (fs : List Function) → are_apart end (map read_of fs) ≡ true → ApartFrom end (kept_of (map read_of fs))
 kept_apart end [] h = tt
 kept_apart end (f ∷ fs) h = at_case (case_of f) (λ least apart. kept_apart least fs apart)
   where
-    at_case : Case f → ((least : ℕ) → are_apart least (map entry_of fs) ≡ true → ApartFrom least (kept_of (map entry_of fs))) → ApartFrom end (kept_of (map entry_of (f ∷ fs)))
+    at_case : Case f → ((least : ℕ) → are_apart least (map read_of fs) ≡ true → ApartFrom least (kept_of (map read_of fs))) → ApartFrom end (kept_of (map read_of (f ∷ fs)))
     at_case (kept_case k) others =
         let goes = sized_goes end f fs k.sized h in
         subst (ApartFrom end) (sym (kept_lists f fs k).kept_is) (goes.from, others (f.start + f.size) goes.on)
     at_case (table_case t) others =
         let later = later_of end f fs h in
-        subst (ApartFrom end) (sym (table_lists f fs t).kept_is) (earlier end later.least (kept_of (map entry_of fs)) later.above (others later.least later.apart))
+        subst (ApartFrom end) (sym (table_lists f fs t).kept_is) (earlier end later.least (kept_of (map read_of fs)) later.above (others later.least later.apart))
     at_case (other_case o) others =
         let later = later_of end f fs h in
-        subst (ApartFrom end) (sym (other_lists f fs o).kept_is) (earlier end later.least (kept_of (map entry_of fs)) later.above (others later.least later.apart))
+        subst (ApartFrom end) (sym (other_lists f fs o).kept_is) (earlier end later.least (kept_of (map read_of fs)) later.above (others later.least later.apart))
 
 -- by places
 pub neighbours : (end : ℕ) (gs : List Func) (k : ℕ) (d : Func) → ApartFrom end gs → k + 1 < length gs → (get_or gs k d).start + (get_or gs k d).size ≤ (get_or gs (k + 1) d).start
@@ -156,36 +156,36 @@ table_first z a b kept pairs written least none below_a below_b h =
     at_tests false e true f = let same = tied_means func_start z b f in with_none false true (none_tied z least kept (omega (arith, same, below_b)) none)
     at_tests false e false f = h ∙ filter-append (tied func_start z) kept pairs
 
-pub same_ties : (z : Func) (end : ℕ) (fs : List Function) → are_apart end (map entry_of fs) ≡ true → filter (tied func_start z) (written_functions fs) ≡ filter (tied func_start z) (kept_of (map entry_of fs) ++ pairs_of fs)
+pub same_ties : (z : Func) (end : ℕ) (fs : List Function) → are_apart end (map read_of fs) ≡ true → filter (tied func_start z) (written_functions fs) ≡ filter (tied func_start z) (kept_of (map read_of fs) ++ pairs_of fs)
 same_ties z end [] h = refl
 same_ties z end (f ∷ fs) h = at_case (case_of f) (λ least apart. same_ties z least fs apart)
   where
-    at_case : Case f → ((least : ℕ) → are_apart least (map entry_of fs) ≡ true → filter (tied func_start z) (written_functions fs) ≡ filter (tied func_start z) (kept_of (map entry_of fs) ++ pairs_of fs))
-        → filter (tied func_start z) (written_functions (f ∷ fs)) ≡ filter (tied func_start z) (kept_of (map entry_of (f ∷ fs)) ++ pairs_of (f ∷ fs))
+    at_case : Case f → ((least : ℕ) → are_apart least (map read_of fs) ≡ true → filter (tied func_start z) (written_functions fs) ≡ filter (tied func_start z) (kept_of (map read_of fs) ++ pairs_of fs))
+        → filter (tied func_start z) (written_functions (f ∷ fs)) ≡ filter (tied func_start z) (kept_of (map read_of (f ∷ fs)) ++ pairs_of (f ∷ fs))
     at_case (kept_case k) others =
         let lists = kept_lists f fs k in
         let goes = sized_goes end f fs k.sized h in
         ap (filter (tied func_start z)) lists.written_is ∙ ap (λ (l : List Func). cond (tied func_start z (expressed_of f)) (expressed_of f ∷ l) l) (others (f.start + f.size) goes.on)
         ∙ sym (ap (λ (l : List Func). filter (tied func_start z) (l ++ pairs_of (f ∷ fs))) lists.kept_is
-        ∙ ap (λ (ts : List Function). filter (tied func_start z) ((expressed_of f ∷ kept_of (map entry_of fs)) ++ flat_map plt_pair ts)) lists.tables_are)
+        ∙ ap (λ (ts : List Function). filter (tied func_start z) ((expressed_of f ∷ kept_of (map read_of fs)) ++ flat_map plt_pair ts)) lists.tables_are)
     at_case (table_case t) others =
         let lists = table_lists f fs t in
         let above = table_sized f t in
         let goes = sized_goes end f fs (omega (arith, above)) h in
-        let none = none_below (f.start + f.size) (kept_of (map entry_of fs)) (kept_apart (f.start + f.size) fs goes.on) in
+        let none = none_below (f.start + f.size) (kept_of (map read_of fs)) (kept_apart (f.start + f.size) fs goes.on) in
         ap (filter (tied func_start z)) lists.written_is
-        ∙ table_first z (first_entry f t.content) (later_entries f t.content) (kept_of (map entry_of fs)) (pairs_of fs) (written_functions fs) (f.start + f.size) none (omega (arith, above)) (omega (arith, above)) (others (f.start + f.size) goes.on)
+        ∙ table_first z (first_entry f t.content) (later_entries f t.content) (kept_of (map read_of fs)) (pairs_of fs) (written_functions fs) (f.start + f.size) none (omega (arith, above)) (omega (arith, above)) (others (f.start + f.size) goes.on)
         ∙ sym (ap (λ (l : List Func). filter (tied func_start z) (l ++ pairs_of (f ∷ fs))) lists.kept_is
-        ∙ ap (λ (ts : List Function). filter (tied func_start z) (kept_of (map entry_of fs) ++ flat_map plt_pair ts)) lists.tables_are
-        ∙ ap (λ (x : Option Content). filter (tied func_start z) (kept_of (map entry_of fs) ++ (pair_by f x ++ pairs_of fs))) t.content_is)
+        ∙ ap (λ (ts : List Function). filter (tied func_start z) (kept_of (map read_of fs) ++ flat_map plt_pair ts)) lists.tables_are
+        ∙ ap (λ (x : Option Content). filter (tied func_start z) (kept_of (map read_of fs) ++ (pair_by f x ++ pairs_of fs))) t.content_is)
     at_case (other_case o) others =
         let lists = other_lists f fs o in
         let later = later_of end f fs h in
         ap (filter (tied func_start z)) lists.written_is ∙ others later.least later.apart
-        ∙ sym (ap (λ (l : List Func). filter (tied func_start z) (l ++ pairs_of (f ∷ fs))) lists.kept_is ∙ ap (λ (ts : List Function). filter (tied func_start z) (kept_of (map entry_of fs) ++ flat_map plt_pair ts)) lists.tables_are)
+        ∙ sym (ap (λ (l : List Func). filter (tied func_start z) (l ++ pairs_of (f ∷ fs))) lists.kept_is ∙ ap (λ (ts : List Function). filter (tied func_start z) (kept_of (map read_of fs) ++ flat_map plt_pair ts)) lists.tables_are)
 
 -- sorted by their starts, the kept functions and the pairs are what is written
-pub sorted_written : (end : ℕ) (fs : List Function) (sorted : List Func) → are_apart end (map entry_of fs) ≡ true → IsNonDecreasingBy func_start sorted → IsStableByKey func_start nat_cmp (kept_of (map entry_of fs) ++ pairs_of fs) sorted
+pub sorted_written : (end : ℕ) (fs : List Function) (sorted : List Func) → are_apart end (map read_of fs) ≡ true → IsNonDecreasingBy func_start sorted → IsStableByKey func_start nat_cmp (kept_of (map read_of fs) ++ pairs_of fs) sorted
     → sorted ≡ written_functions fs
 sorted_written end fs sorted h rises stable =
     one_order_of func_start sorted (written_functions fs) rises (rising end (written_functions fs) (written_apart end fs h)) (λ z. stable z ∙ sym (same_ties z end fs h))

@@ -11,11 +11,11 @@ use Rattle.sf_model.specs.declared.omission.Reason.TheVariants.{EmptyRange, Size
 use Rattle.cfa_machine.specs.Registers.{return_address}
 use Rattle.sf_express.specs.Expressed.{reason_of}
 use Rattle.sf_express.specs.Runs.{expressed, function_of, omission_of, unless_omitted, first_against, whole_or_row}
-use Rattle.frame_functions.specs.declared.entry.Expressed.{Expressed}
-use Rattle.frame_functions.specs.declared.entry.Expressed.TheVariants as outcome
-use Rattle.frame_functions.specs.Entry.{kept_in, kept_of}
+use Rattle.frame_functions.specs.declared.read_function.Expressed.{Expressed}
+use Rattle.frame_functions.specs.declared.read_function.Expressed.TheVariants as outcome
+use Rattle.frame_functions.specs.ReadFunction.{kept_in, kept_of}
 use Rattle.frame_functions.specs.Functions.{Function}
-use Rattle.frame_functions.specs.Kept.{entry_of, facts_of, is_kept, kept_functions, omitted_functions, outcome_by, says_of}
+use Rattle.frame_functions.specs.Kept.{read_of, facts_of, is_kept, kept_functions, omitted_functions, outcome_by, says_of}
 use Rattle.sf_plt.specs.Plt.{initial_content, is_plt, plt_functions}
 use Rattle.sf_plt.specs.Written.{first_entry, later_entries, pair_by, plt_pair, written_as, written_functions}
 use Rattle.sf_plt.proofs.Form.{plt_form}
@@ -25,13 +25,13 @@ abbrev pub expressed_of : Function → Func
 expressed_of f = expressed (facts_of f) (says_of f)
 
 pub record IsKept (f : Function) : Type 0 where
-  pub outcome_is : (entry_of f).outcome ≡ outcome.Kept (expressed_of f)
+  pub outcome_is : (read_of f).outcome ≡ outcome.Kept (expressed_of f)
   pub kept : is_kept f ≡ true
   pub sized : 0 < f.size
 
 pub record IsTable (f : Function) : Type 0 where
   pub omission : Omission
-  pub outcome_is : (entry_of f).outcome ≡ outcome.LeftOut omission
+  pub outcome_is : (read_of f).outcome ≡ outcome.LeftOut omission
   pub kept : is_kept f ≡ false
   pub table : is_plt f ≡ true
   pub content : Content
@@ -39,7 +39,7 @@ pub record IsTable (f : Function) : Type 0 where
 
 pub record IsOther (f : Function) : Type 0 where
   pub omission : Omission
-  pub outcome_is : (entry_of f).outcome ≡ outcome.LeftOut omission
+  pub outcome_is : (read_of f).outcome ≡ outcome.LeftOut omission
   pub kept : is_kept f ≡ false
   pub table : is_plt f ≡ false
 
@@ -93,14 +93,14 @@ case_of f = at_omission (omission_of f.arch (facts_of f) (says_of f)) refl
 -- ---- the lists of one function more
 pub record Lists (f : Function) (fs : List Function) (written kept : List Func) (kept_fs tables : List Function) : Type 0 where
   pub written_is : written_functions (f ∷ fs) ≡ written
-  pub kept_is : kept_of (map entry_of (f ∷ fs)) ≡ kept
+  pub kept_is : kept_of (map read_of (f ∷ fs)) ≡ kept
   pub kept_functions_are : kept_functions (f ∷ fs) ≡ kept_fs
   pub tables_are : plt_functions (f ∷ fs) ≡ tables
 
 abbrev kept_by : Expressed → List Function → List Func
-kept_by o fs = cons_option (kept_in o) (kept_of (map entry_of fs))
+kept_by o fs = cons_option (kept_in o) (kept_of (map read_of fs))
 
-pub kept_lists : (f : Function) (fs : List Function) → IsKept f → Lists f fs (expressed_of f ∷ written_functions fs) (expressed_of f ∷ kept_of (map entry_of fs)) (f ∷ kept_functions fs) (plt_functions fs)
+pub kept_lists : (f : Function) (fs : List Function) → IsKept f → Lists f fs (expressed_of f ∷ written_functions fs) (expressed_of f ∷ kept_of (map read_of fs)) (f ∷ kept_functions fs) (plt_functions fs)
 kept_lists f fs h = record {
   written_is = ap (λ (o : Expressed). written_as f o ++ written_functions fs) h.outcome_is;
   kept_is = ap (λ (o : Expressed). kept_by o fs) h.outcome_is;
@@ -108,7 +108,7 @@ kept_lists f fs h = record {
   tables_are = ap (λ (b : Bool). filter is_plt (cond (not b) (f ∷ omitted_functions fs) (omitted_functions fs))) h.kept;
 }
 
-pub table_lists : (f : Function) (fs : List Function) (h : IsTable f) → Lists f fs (first_entry f h.content ∷ later_entries f h.content ∷ written_functions fs) (kept_of (map entry_of fs)) (kept_functions fs) (f ∷ plt_functions fs)
+pub table_lists : (f : Function) (fs : List Function) (h : IsTable f) → Lists f fs (first_entry f h.content ∷ later_entries f h.content ∷ written_functions fs) (kept_of (map read_of fs)) (kept_functions fs) (f ∷ plt_functions fs)
 table_lists f fs h = record {
   written_is = ap (λ (o : Expressed). written_as f o ++ written_functions fs) h.outcome_is ∙ ap (λ (b : Bool). cond b (plt_pair f) [] ++ written_functions fs) h.table
       ∙ ap (λ (x : Option Content). pair_by f x ++ written_functions fs) h.content_is;
@@ -118,7 +118,7 @@ table_lists f fs h = record {
       ∙ ap (λ (b : Bool). cond b (f ∷ plt_functions fs) (plt_functions fs)) h.table;
 }
 
-pub other_lists : (f : Function) (fs : List Function) → IsOther f → Lists f fs (written_functions fs) (kept_of (map entry_of fs)) (kept_functions fs) (plt_functions fs)
+pub other_lists : (f : Function) (fs : List Function) → IsOther f → Lists f fs (written_functions fs) (kept_of (map read_of fs)) (kept_functions fs) (plt_functions fs)
 other_lists f fs h = record {
   written_is = ap (λ (o : Expressed). written_as f o ++ written_functions fs) h.outcome_is ∙ ap (λ (b : Bool). cond b (plt_pair f) [] ++ written_functions fs) h.table;
   kept_is = ap (λ (o : Expressed). kept_by o fs) h.outcome_is;

@@ -25,22 +25,22 @@ use Rattle.sf_write.specs.Section.{table_of}
 use Rattle.sf_functions.specs.Limits.{exceeded}
 use Rattle.sf_functions.specs.Order.{IsInOrder}
 use Rattle.sf_functions.proofs.LimitsHeld as limits
-use Rattle.frame_functions.specs.declared.entry.Entry.{Entry}
-use Rattle.frame_functions.specs.declared.entry.Expressed.{Expressed}
+use Rattle.frame_functions.specs.declared.read_function.ReadFunction.{ReadFunction}
+use Rattle.frame_functions.specs.declared.read_function.Expressed.{Expressed}
 use Rattle.sf_asm.specs.declared.fault.GatherFault.{GatherFault}
 use Rattle.sf_asm.specs.declared.fault.GatherFault.TheVariants as gather
 use Rattle.sf_asm.specs.Answers.{IsFirstGathered}
 use Rattle.sf_asm.specs.declared.fault.LinkFault.{LinkFault}
 use Rattle.sf_asm.specs.declared.fault.LinkFault.TheVariants as link
-use Rattle.frame_functions.specs.Entry.{kept_of, omitted_of, spans_of}
+use Rattle.frame_functions.specs.ReadFunction.{kept_of, omitted_of, spans_of}
 use Rattle.frame_functions.specs.Functions.{Function}
 use Rattle.sf_asm.specs.Functions.{Object, unless}
 use Rattle.sf_asm.specs.Inputs.{HaveMachine, all_functions, mixed_fault, first_item}
-use Rattle.frame_functions.specs.Kept.{entry_of, is_kept, kept_functions, omitted_functions}
+use Rattle.frame_functions.specs.Kept.{read_of, is_kept, kept_functions, omitted_functions}
 use Rattle.sf_asm.specs.Linking.{Gathers, GathersFrom, fault_of_limit, functions_fault, limits_fault, or_later, overlap_fault, overlap_in, unless_fault as unless_gathered}
-use Rattle.frame_functions.specs.Order.{are_apart, entry_rows, rows_of}
-use Rattle.frame_functions.specs.Sources.{AreByStart, function_start}
-use Rattle.sf_asm.specs.Sources.{AreWithSources}
+use Rattle.frame_functions.specs.Order.{are_apart, read_rows, rows_of}
+use Rattle.frame_functions.specs.Descriptions.{AreByStart, function_start}
+use Rattle.sf_asm.specs.Descriptions.{AreWithDescriptions}
 use Rattle.sf_asm.proofs.ByStart.{are_by_start, ordered_are, sorted_functions}
 use Rattle.sf_asm.proofs.Described.{described, from_gathers}
 use Rattle.sf_asm.proofs.GatheredInputs.{are_read, by_parts}
@@ -63,11 +63,11 @@ use Rattle.sf_plt.proofs.Sorted.{lines_alone, omitted_count, are_omitted}
 
 -- ---- counts
 pub record Counts (fs : List Function) : Type 0 where
-  pub functions : length (kept_of (map entry_of fs)) + length (omitted_functions fs) ≡ length fs
-  pub kept : length (kept_functions fs) ≡ length (kept_of (map entry_of fs))
+  pub functions : length (kept_of (map read_of fs)) + length (omitted_functions fs) ≡ length fs
+  pub kept : length (kept_functions fs) ≡ length (kept_of (map read_of fs))
   pub written : length (written_functions fs) ≤ length fs + length (plt_functions fs)
-  pub kept_rows : row_count (kept_of (map entry_of fs)) ≡ sum_by entry_rows (map entry_of fs)
-  pub rows : row_count (written_functions fs) ≡ sum_by entry_rows (map entry_of fs) + 4 * length (plt_functions fs)
+  pub kept_rows : row_count (kept_of (map read_of fs)) ≡ sum_by read_rows (map read_of fs)
+  pub rows : row_count (written_functions fs) ≡ sum_by read_rows (map read_of fs) + 4 * length (plt_functions fs)
 
 abbrev func_rows : Func → ℕ
 func_rows g = length g.rows
@@ -75,8 +75,8 @@ func_rows g = length g.rows
 omitted_by : (f : Function) (fs : List Function) (b : Bool) → is_kept f ≡ b → omitted_functions (f ∷ fs) ≡ cond (not b) (f ∷ omitted_functions fs) (omitted_functions fs)
 omitted_by f fs b e = ap (λ (x : Bool). cond (not x) (f ∷ omitted_functions fs) (omitted_functions fs)) e
 
-rows_by : (f : Function) (fs : List Function) (o : Expressed) → (entry_of f).outcome ≡ o → sum_by entry_rows (map entry_of (f ∷ fs)) ≡ rows_of o + sum_by entry_rows (map entry_of fs)
-rows_by f fs o e = sum_by-cons entry_rows (entry_of f) (map entry_of fs) ∙ ap (λ (x : Expressed). rows_of x + sum_by entry_rows (map entry_of fs)) e
+rows_by : (f : Function) (fs : List Function) (o : Expressed) → (read_of f).outcome ≡ o → sum_by read_rows (map read_of (f ∷ fs)) ≡ rows_of o + sum_by read_rows (map read_of fs)
+rows_by f fs o e = sum_by-cons read_rows (read_of f) (map read_of fs) ∙ ap (λ (x : Expressed). rows_of x + sum_by read_rows (map read_of fs)) e
 
 pub counts : (fs : List Function) → Counts fs
 counts [] = record { functions = refl; kept = refl; written = omega arith; kept_rows = refl; rows = refl }
@@ -91,7 +91,7 @@ counts (f ∷ fs) = at_case (case_of f) (counts fs)
         let written = ap length lists.written_is in
         let tables = ap length lists.tables_are in
         let rows = rows_by f fs _ k.outcome_is in
-        let kept_rows = ap row_count lists.kept_is ∙ sum_by-cons func_rows (expressed_of f) (kept_of (map entry_of fs)) in
+        let kept_rows = ap row_count lists.kept_is ∙ sum_by-cons func_rows (expressed_of f) (kept_of (map read_of fs)) in
         let all_rows = ap row_count lists.written_is ∙ sum_by-cons func_rows (expressed_of f) (written_functions fs) in
         record {
           functions = omega (arith, c.functions, omitted, kept);
@@ -146,18 +146,18 @@ within_both functions rows tables e =
     record { functions_fit = limits.few_functions (functions + tables) (rows + 4 * tables) none; rows_fit = limits.few_rows (functions + tables) (rows + 4 * tables) none }
 
 -- what was counted is what is to be counted
-pub same_fault : (fs : List Function) (functions rows tables : ℕ) → functions ≡ length fs → rows ≡ sum_by entry_rows (map entry_of fs) → tables ≡ length (plt_functions fs) → further_fault functions rows tables ≡ plts_fault fs
+pub same_fault : (fs : List Function) (functions rows tables : ℕ) → functions ≡ length fs → rows ≡ sum_by read_rows (map read_of fs) → tables ≡ length (plt_functions fs) → further_fault functions rows tables ≡ plts_fault fs
 unfolding plts_fault
 same_fault fs functions rows tables e f g =
     ap (λ (n : ℕ). further_fault n rows tables) e ∙ ap (λ (n : ℕ). further_fault (length fs) n tables) f
-    ∙ ap (further_fault (length fs) (sum_by entry_rows (map entry_of fs))) g
+    ∙ ap (further_fault (length fs) (sum_by read_rows (map read_of fs))) g
 
 -- ---- what can be written
-pub are_writable : (arch : Arch) (fs : List Function) → are_apart 0 (map entry_of fs) ≡ true → plts_fault fs ≡ None → All (IsWritable arch) (written_functions fs) → AreWritable arch (written_functions fs)
+pub are_writable : (arch : Arch) (fs : List Function) → are_apart 0 (map read_of fs) ≡ true → plts_fault fs ≡ None → All (IsWritable arch) (written_functions fs) → AreWritable arch (written_functions fs)
 unfolding plts_fault
 are_writable arch fs apart few each =
     let c = counts fs in
-    let w = within_both (length fs) (sum_by entry_rows (map entry_of fs)) (length (plt_functions fs)) few in
+    let w = within_both (length fs) (sum_by read_rows (map read_of fs)) (length (plt_functions fs)) few in
     record {
       each = each;
       apart = λ k d lt. neighbours 0 (written_functions fs) k d (written_apart 0 fs apart) lt;
@@ -173,37 +173,37 @@ apart_from (Some fault) pair e = cc
 
 pub record Ready (before : Option Arch) (objects : List Object) (functions sorted : List Function) : Type 0 where
   pub all : all_functions before objects ≡ Ok functions
-  pub checked : functions_fault (map entry_of sorted) ≡ None
-  pub apart : are_apart 0 (map entry_of sorted) ≡ true
+  pub checked : functions_fault (map read_of sorted) ≡ None
+  pub apart : are_apart 0 (map read_of sorted) ≡ true
 
-pub ready : (before : Option Arch) (objects : List Object) (arch : Arch) (kept : List Func) (omitted : List Omitted) (lent : List Function) (g : AreWithSources before objects arch kept omitted lent) → Ready before objects g.functions g.sorted
+pub ready : (before : Option Arch) (objects : List Object) (arch : Arch) (kept : List Func) (omitted : List Omitted) (lent : List Function) (g : AreWithDescriptions before objects arch kept omitted lent) → Ready before objects g.functions g.sorted
 ready before objects arch kept omitted lent g =
-    let read = are_read before objects (map entry_of g.sorted) g.is in
+    let read = are_read before objects (map read_of g.sorted) g.is in
     record {
       all = ap (λ (given : Result (List Function) GatherFault). by_parts given (mixed_fault before objects)) (described (first_item before) objects (Ok g.functions) g.are) ∙ ap (by_parts (Ok g.functions)) read.one;
       checked = read.checked;
-      apart = not_overlapping_apart (map entry_of g.sorted) (apart_from (limits_fault (map entry_of g.sorted)) (overlap_in (spans_of (map entry_of g.sorted))) read.checked);
+      apart = not_overlapping_apart (map read_of g.sorted) (apart_from (limits_fault (map read_of g.sorted)) (overlap_in (spans_of (map read_of g.sorted))) read.checked);
     }
 
 -- the machine of what was lent
-pub machine_of_lent : (before : Option Arch) (objects : List Object) (arch : Arch) (kept : List Func) (omitted : List Omitted) (lent : List Function) → AreWithSources before objects arch kept omitted lent → HaveMachine before objects arch → All (λ (f : Function). f.arch ≡ arch) lent
+pub machine_of_lent : (before : Option Arch) (objects : List Object) (arch : Arch) (kept : List Func) (omitted : List Omitted) (lent : List Function) → AreWithDescriptions before objects arch kept omitted lent → HaveMachine before objects arch → All (λ (f : Function). f.arch ≡ arch) lent
 machine_of_lent before objects arch kept omitted lent g machine =
     let all = machine_of_functions before objects arch g.functions (described (first_item before) objects (Ok g.functions) g.are) machine in
     let sorted = All-permutation (λ (f : Function). f.arch ≡ arch) g.functions g.sorted g.by_start.moved all in
-    subst (All (λ (f : Function). f.arch ≡ arch)) (sym g.sources_are) (All-filter (λ (f : Function). not (is_kept f)) (λ (f : Function). f.arch ≡ arch) g.sorted sorted)
+    subst (All (λ (f : Function). f.arch ≡ arch)) (sym g.descriptions_are) (All-filter (λ (f : Function). not (is_kept f)) (λ (f : Function). f.arch ≡ arch) g.sorted sorted)
 
 -- sorted by their starts, the functions that are written are those of the definition
-pub made_written : (before : Option Arch) (objects : List Object) (arch : Arch) (kept : List Func) (omitted : List Omitted) (lent : List Function) (g : AreWithSources before objects arch kept omitted lent) → (made ordered : List Func) → made ≡ kept ++ flat_map plt_pair (filter is_plt lent)
+pub made_written : (before : Option Arch) (objects : List Object) (arch : Arch) (kept : List Func) (omitted : List Omitted) (lent : List Function) (g : AreWithDescriptions before objects arch kept omitted lent) → (made ordered : List Func) → made ≡ kept ++ flat_map plt_pair (filter is_plt lent)
     → IsNonDecreasingBy func_start ordered → IsStableByKey func_start nat_cmp made ordered → ordered ≡ written_functions g.sorted
 made_written before objects arch kept omitted lent g made ordered is rising stable =
-    let all : made ≡ kept_of (map entry_of g.sorted) ++ pairs_of g.sorted =
-    is ∙ ap (λ (gs : List Func). gs ++ flat_map plt_pair (filter is_plt lent)) g.kept_are ∙ ap (λ (fs : List Function). kept_of (map entry_of g.sorted) ++ flat_map plt_pair (filter is_plt fs)) g.sources_are in
+    let all : made ≡ kept_of (map read_of g.sorted) ++ pairs_of g.sorted =
+    is ∙ ap (λ (gs : List Func). gs ++ flat_map plt_pair (filter is_plt lent)) g.kept_are ∙ ap (λ (fs : List Function). kept_of (map read_of g.sorted) ++ flat_map plt_pair (filter is_plt fs)) g.descriptions_are in
     sorted_written 0 g.sorted ordered (ready before objects arch kept omitted lent g).apart rising (subst (λ (gs : List Func). IsStableByKey func_start nat_cmp gs ordered) all stable)
 
 -- what was counted
 pub record Counted (sorted : List Function) (functions rows tables : ℕ) : Type 0 where
   pub functions_are : functions ≡ length sorted
-  pub rows_are : rows ≡ sum_by entry_rows (map entry_of sorted)
+  pub rows_are : rows ≡ sum_by read_rows (map read_of sorted)
   pub tables_are : tables ≡ length (plt_functions sorted)
   pub few : functions ≤ 2 ^ 21
   pub few_rows : rows ≤ 2 ^ 24
@@ -222,16 +222,16 @@ limits_from : (limits : Option GatherFault) (pair : Option (Span × Span)) → o
 limits_from None pair e = refl
 limits_from (Some fault) pair e = cc
 
-pub counted : (before : Option Arch) (objects : List Object) (arch : Arch) (kept : List Func) (omitted : List Omitted) (lent : List Function) (g : AreWithSources before objects arch kept omitted lent) → (functions rows tables : ℕ) → functions ≡ length kept + length omitted → rows ≡ row_count kept
+pub counted : (before : Option Arch) (objects : List Object) (arch : Arch) (kept : List Func) (omitted : List Omitted) (lent : List Function) (g : AreWithDescriptions before objects arch kept omitted lent) → (functions rows tables : ℕ) → functions ≡ length kept + length omitted → rows ≡ row_count kept
     → tables ≡ length (filter is_plt lent) → Counted g.sorted functions rows tables
 counted before objects arch kept omitted lent g functions rows tables e f h =
     let c = counts g.sorted in
     let kept_count = ap length g.kept_are in
     let omitted_count' = ap length g.omitted_are ∙ ap length (lines_alone g.sorted) ∙ omitted_count (omitted_functions g.sorted) (are_omitted g.sorted) in
     let functions_are : functions ≡ length g.sorted = omega (arith, e, kept_count, omitted_count', c.functions) in
-    let few = few_functions (map entry_of g.sorted) (limits_from (limits_fault (map entry_of g.sorted)) (overlap_in (spans_of (map entry_of g.sorted))) (ready before objects arch kept omitted lent g).checked) in
-    let long = length-map g.sorted entry_of in
-    let tables_are : tables ≡ length (plt_functions g.sorted) = h ∙ ap (λ (fs : List Function). length (filter is_plt fs)) g.sources_are in
+    let few = few_functions (map read_of g.sorted) (limits_from (limits_fault (map read_of g.sorted)) (overlap_in (spans_of (map read_of g.sorted))) (ready before objects arch kept omitted lent g).checked) in
+    let long = length-map g.sorted read_of in
+    let tables_are : tables ≡ length (plt_functions g.sorted) = h ∙ ap (λ (fs : List Function). length (filter is_plt fs)) g.descriptions_are in
     let within = tables_within g.sorted in
     record {
       functions_are = functions_are;
@@ -250,10 +250,10 @@ gathered_refused at (Ok functions) fault (ordered, order, is) =
     let same = ordered_are functions ordered order in (
       sorted,
       are_by_start functions,
-      at_fault (functions_fault (map entry_of sorted)) refl (subst (λ (es : List Entry). Err fault ≡ unless_gathered (functions_fault es) es) same is),
+      at_fault (functions_fault (map read_of sorted)) refl (subst (λ (es : List ReadFunction). Err fault ≡ unless_gathered (functions_fault es) es) same is),
     )
   where
-    at_fault : (first : Option GatherFault) → functions_fault (map entry_of (sorted_functions functions)) ≡ first → Err fault ≡ unless_gathered first (map entry_of (sorted_functions functions)) → Err (link.Gather fault) ≡ unless_fault (plt_link_fault at (sorted_functions functions)) (sorted_functions functions)
+    at_fault : (first : Option GatherFault) → functions_fault (map read_of (sorted_functions functions)) ≡ first → Err fault ≡ unless_gathered first (map read_of (sorted_functions functions)) → Err (link.Gather fault) ≡ unless_fault (plt_link_fault at (sorted_functions functions)) (sorted_functions functions)
     at_fault None e is = cc
     at_fault (Some other) e is =
         let same : fault ≡ other = cc in
@@ -288,7 +288,7 @@ first_written before objects at functions sorted (write.OutOfReach start) writte
     inr (out_of_reach before objects at functions sorted start h order few (ap (first_out_of_reach at 0) (sym is) ∙ refused))
 first_written before objects at functions sorted write.NoMemory written h order few is refused = inl refl
 
-pub accepted_by : (at : ℕ) (sorted : List Function) → functions_fault (map entry_of sorted) ≡ None → plts_fault sorted ≡ None → first_out_of_reach at 0 (written_functions sorted) ≡ None → plt_link_fault at sorted ≡ None
+pub accepted_by : (at : ℕ) (sorted : List Function) → functions_fault (map read_of sorted) ≡ None → plts_fault sorted ≡ None → first_out_of_reach at 0 (written_functions sorted) ≡ None → plt_link_fault at sorted ≡ None
 accepted_by at sorted checked few near =
     ap (λ (first : Option GatherFault). or_later (option_map link.Gather (or_later first (plts_fault sorted))) (option_map link.OutOfReach (first_out_of_reach at 0 (written_functions sorted)))) checked
     ∙ ap (λ (first : Option GatherFault). or_later (option_map link.Gather first) (option_map link.OutOfReach (first_out_of_reach at 0 (written_functions sorted)))) few
@@ -296,8 +296,8 @@ accepted_by at sorted checked few near =
 
 -- ---- the section
 pub plt_linked : (before : Option Arch) (objects : List Object) (at : ℕ) (section : List ℕ) (count : ℕ) (omitted : List Omitted) (plts : List Span) (arch : Arch) (kept : List Func) (gathered : List Omitted) (lent : List Function)
-    → (g : AreWithSources before objects arch kept gathered lent) → HaveMachine before objects arch → (written : List Func) → written ≡ written_functions g.sorted → plts_fault g.sorted ≡ None → Section section at (table_of arch written)
-    → Tight section at (table_of arch written) → Narrow section (table_of arch written) → first_out_of_reach at 0 written ≡ None → count ≡ length kept → omitted ≡ omitted_of (map entry_of (others_in lent)) → plts ≡ map plt_span (filter is_plt lent)
+    → (g : AreWithDescriptions before objects arch kept gathered lent) → HaveMachine before objects arch → (written : List Func) → written ≡ written_functions g.sorted → plts_fault g.sorted ≡ None → Section section at (table_of arch written)
+    → Tight section at (table_of arch written) → Narrow section (table_of arch written) → first_out_of_reach at 0 written ≡ None → count ≡ length kept → omitted ≡ omitted_of (map read_of (others_in lent)) → plts ≡ map plt_span (filter is_plt lent)
     → IsPltLinkedWith before objects at section count omitted plts lent
 plt_linked before objects at section count omitted plts arch kept gathered lent g machine written is few section_is tight narrow near count_is omitted_are plts_are =
     let h = ready before objects arch kept gathered lent g in
@@ -317,10 +317,10 @@ plt_linked before objects at section count omitted plts arch kept gathered lent 
         tight = subst (λ (gs : List Func). Tight section at (table_of arch gs)) is tight;
         narrow = subst (λ (gs : List Func). Narrow section (table_of arch gs)) is narrow;
         kept_is = count_is ∙ ap length g.kept_are ∙ sym c.kept;
-        omitted_are = omitted_are ∙ ap (λ (fs : List Function). omitted_of (map entry_of (others_in fs))) g.sources_are;
-        plts_are = plts_are ∙ ap (λ (fs : List Function). map plt_span (filter is_plt fs)) g.sources_are;
+        omitted_are = omitted_are ∙ ap (λ (fs : List Function). omitted_of (map read_of (others_in fs))) g.descriptions_are;
+        plts_are = plts_are ∙ ap (λ (fs : List Function). map plt_span (filter is_plt fs)) g.descriptions_are;
       };
-      sources_are = g.sources_are;
+      descriptions_are = g.descriptions_are;
     }
 
 -- ---- one result
@@ -364,7 +364,7 @@ pub record Made (arch : Arch) (sorted : List Function) (ordered : List Func) : T
   pub few : plts_fault sorted ≡ None
   pub writable : AreWritable arch ordered
 
-pub made : (before : Option Arch) (objects : List Object) (arch : Arch) (kept : List Func) (omitted : List Omitted) (lent : List Function) (g : AreWithSources before objects arch kept omitted lent) → (functions rows tables : ℕ) → functions ≡ length kept + length omitted → rows ≡ row_count kept
+pub made : (before : Option Arch) (objects : List Object) (arch : Arch) (kept : List Func) (omitted : List Omitted) (lent : List Function) (g : AreWithDescriptions before objects arch kept omitted lent) → (functions rows tables : ℕ) → functions ≡ length kept + length omitted → rows ≡ row_count kept
     → tables ≡ length (filter is_plt lent) → (u : Unit {0}) → Ok u ≡ unless (further_fault functions rows tables) → (written ordered : List Func) → written ≡ kept ++ flat_map plt_pair (filter is_plt lent) → All (IsWritable arch) written → IsInOrder func_start written ordered
     → Made arch g.sorted ordered
 made before objects arch kept omitted lent g functions rows tables e f h u checked written ordered are each order =
@@ -378,7 +378,7 @@ made before objects arch kept omitted lent g functions rows tables e f h u check
       writable = subst (AreWritable arch) (sym is) (are_writable arch g.sorted (ready before objects arch kept omitted lent g).apart few all);
     }
 
-pub over : (before : Option Arch) (objects : List Object) (at : ℕ) (arch : Arch) (kept : List Func) (omitted : List Omitted) (lent : List Function) (g : AreWithSources before objects arch kept omitted lent) → (functions rows tables : ℕ) → functions ≡ length kept + length omitted → rows ≡ row_count kept
+pub over : (before : Option Arch) (objects : List Object) (at : ℕ) (arch : Arch) (kept : List Func) (omitted : List Omitted) (lent : List Function) (g : AreWithDescriptions before objects arch kept omitted lent) → (functions rows tables : ℕ) → functions ≡ length kept + length omitted → rows ≡ row_count kept
     → tables ≡ length (filter is_plt lent) → (fault : GatherFault) → Err fault ≡ unless (further_fault functions rows tables) → IsFirstPltLinked before objects at (link.Gather fault)
 over before objects at arch kept omitted lent g functions rows tables e f h fault checked =
     let k = counted before objects arch kept omitted lent g functions rows tables e f h in

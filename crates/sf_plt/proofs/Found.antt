@@ -15,11 +15,11 @@ use Rattle.sf_model.specs.Walk.{recover_by_rows}
 use Rattle.cfa_machine.specs.Recovery.{RuleRecovery}
 use Rattle.frame_functions.specs.Functions.{holds_address, Function}
 use Rattle.sf_asm.specs.Faithful.{recovered_at, recovered_in}
-use Rattle.frame_functions.specs.Kept.{entry_of, is_kept, kept_functions}
+use Rattle.frame_functions.specs.Kept.{read_of, is_kept, kept_functions}
 use Rattle.frame_functions.specs.Order.{are_apart}
 use Rattle.sf_asm.proofs.Agreeing.{function_recovers}
 use Rattle.sf_model.proofs.Unions.{Member, OnePasses}
-use Rattle.sf_asm.proofs.Finding.{found_alike}
+use Rattle.sf_asm.proofs.OneFound.{found_alike}
 use Rattle.sf_plt.specs.Answers.{RecoversWithPlts}
 use Rattle.sf_plt.specs.Plt.{is_plt, plt_functions, recovered_in_plt}
 use Rattle.sf_plt.specs.Written.{first_entry, later_entries, pair_by, recovered_with_plts, written_functions}
@@ -37,7 +37,7 @@ outside pc end f lt le = at_tests (nat_le f.start pc) refl
     at_tests true t = let below = leb-true f.start pc t in absurd (omega (arith, lt, le, below))
 
 -- an address before the first of them is in none
-none_holds : (pc end : ℕ) (fs : List Function) → pc < end → are_apart end (map entry_of fs) ≡ true → (x : Function) → Member fs x → holds_address pc x ≡ true → ⊥
+none_holds : (pc end : ℕ) (fs : List Function) → pc < end → are_apart end (map read_of fs) ≡ true → (x : Function) → Member fs x → holds_address pc x ≡ true → ⊥
 none_holds pc end [] lt h x m t = m
 none_holds pc end (f ∷ fs) lt h x (inl is) t =
     let w = within pc x.start x.size t in
@@ -49,7 +49,7 @@ none_holds pc end (f ∷ fs) lt h x (inr m) t =
     let later = later_of end f fs h in
     none_holds pc later.least fs (omega (arith, lt, later.above)) later.apart x m t
 
-pub one_holds : (pc end : ℕ) (fs : List Function) → are_apart end (map entry_of fs) ≡ true → OnePasses (holds_address pc) fs
+pub one_holds : (pc end : ℕ) (fs : List Function) → are_apart end (map read_of fs) ≡ true → OnePasses (holds_address pc) fs
 one_holds pc end [] h = λ x y m n s t. absurd m
 one_holds pc end (f ∷ fs) h = λ x y m n s t. at_members x y m n s t (let later = later_of end f fs h in one_holds pc later.least fs later.apart)
   where
@@ -124,7 +124,7 @@ not_front pc regs memory f content gs above out =
     second = grind (arith, nat_tests)
 
 -- ---- all functions
-pub written_recovers : (end : ℕ) (fs : List Function) → are_apart end (map entry_of fs) ≡ true → (pc : ℕ) (regs : Regs) (memory : List Region)
+pub written_recovers : (end : ℕ) (fs : List Function) → are_apart end (map read_of fs) ≡ true → (pc : ℕ) (regs : Regs) (memory : List Region)
     → recovered_of (written_functions fs) pc regs memory ≡ by_functions (kept_functions fs) (plt_functions fs) pc regs memory
 written_recovers end [] h pc regs memory = refl
 written_recovers end (f ∷ fs) h pc regs memory = at_case (case_of f) (λ least apart. written_recovers least fs apart pc regs memory)
@@ -146,7 +146,7 @@ written_recovers end (f ∷ fs) h pc regs memory = at_case (case_of f) (λ least
         ∙ rest
         ∙ sym (ap (λ (b : Bool). option_or (option_map (recovered_in memory pc regs) (cond b (Some f) (find (holds_address pc) (kept_functions fs)))) (option_map (recovered_in_plt memory pc regs) (find (holds_address pc) (plt_functions fs)))) t)
 
-    of_table : (t : IsTable f) → 16 < f.size → are_apart (f.start + f.size) (map entry_of fs) ≡ true → (b : Bool) → holds_address pc f ≡ b → recovered_of (written_functions fs) pc regs memory ≡ by_functions (kept_functions fs) (plt_functions fs) pc regs memory
+    of_table : (t : IsTable f) → 16 < f.size → are_apart (f.start + f.size) (map read_of fs) ≡ true → (b : Bool) → holds_address pc f ≡ b → recovered_of (written_functions fs) pc regs memory ≡ by_functions (kept_functions fs) (plt_functions fs) pc regs memory
         → recovered_of (first_entry f t.content ∷ later_entries f t.content ∷ written_functions fs) pc regs memory ≡ by_functions (kept_functions fs) (f ∷ plt_functions fs) pc regs memory
     of_table t above on true holds rest =
         let w = within pc f.start f.size holds in
@@ -159,7 +159,7 @@ written_recovers end (f ∷ fs) h pc regs memory = at_case (case_of f) (λ least
         not_front pc regs memory f t.content (written_functions fs) above out ∙ rest
         ∙ sym (ap (λ (b : Bool). option_or (option_map (recovered_in memory pc regs) (find (holds_address pc) (kept_functions fs))) (option_map (recovered_in_plt memory pc regs) (cond b (Some f) (find (holds_address pc) (plt_functions fs))))) out)
 
-    at_case : Case f → ((least : ℕ) → are_apart least (map entry_of fs) ≡ true → recovered_of (written_functions fs) pc regs memory ≡ by_functions (kept_functions fs) (plt_functions fs) pc regs memory)
+    at_case : Case f → ((least : ℕ) → are_apart least (map read_of fs) ≡ true → recovered_of (written_functions fs) pc regs memory ≡ by_functions (kept_functions fs) (plt_functions fs) pc regs memory)
         → recovered_of (written_functions (f ∷ fs)) pc regs memory ≡ by_functions (kept_functions (f ∷ fs)) (plt_functions (f ∷ fs)) pc regs memory
     at_case (kept_case k) others =
         let later = later_of end f fs h in
@@ -173,7 +173,7 @@ written_recovers end (f ∷ fs) h pc regs memory = at_case (case_of f) (λ least
         shown _ _ _ _ (other_lists f fs o) (others later.least later.apart)
 
 -- of functions by rising start that are apart
-pub recovers_with_plts : (functions sorted : List Function) → IsPermutation functions sorted → are_apart 0 (map entry_of sorted) ≡ true → RecoversWithPlts (written_functions sorted) functions
+pub recovers_with_plts : (functions sorted : List Function) → IsPermutation functions sorted → are_apart 0 (map read_of sorted) ≡ true → RecoversWithPlts (written_functions sorted) functions
 unfolding recover_by_rows found_at recovered_at recovered_with_plts
 recovers_with_plts functions sorted same apart address regs memory =
     let one = one_holds address 0 sorted apart in

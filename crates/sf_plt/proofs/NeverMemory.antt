@@ -12,9 +12,9 @@ use Rattle.sf_asm.specs.Fault.{is_answered, is_gather_refusal, is_wrapped_answer
 use Rattle.frame_functions.specs.Functions.{Function}
 use Rattle.sf_asm.specs.Functions.{Object}
 use Rattle.sf_asm.specs.Inputs.{all_functions}
-use Rattle.frame_functions.specs.Kept.{entry_of}
+use Rattle.frame_functions.specs.Kept.{read_of}
 use Rattle.sf_asm.specs.Linking.{fault_of_limit, functions_fault, or_later}
-use Rattle.frame_functions.specs.Order.{entry_rows}
+use Rattle.frame_functions.specs.Order.{read_rows}
 use Rattle.sf_asm.proofs.NeverMemory.{FaultIn, FaultIs, all_refused, any_mapped, earlier, functions_tried, limit_answered, mapped, refusal_or_limit, where_none}
 use Rattle.sf_plt.specs.Answers.{IsFirstPltLinked}
 use Rattle.sf_plt.specs.Linking.{LinksPltsFrom, plt_link_fault, plts_fault}
@@ -25,13 +25,13 @@ use Rattle.sf_plt.proofs.Described.{from_links}
 limits : (sorted : List Function) → FaultIn is_wrapped_answered (plts_fault sorted)
 unfolding plts_fault
 limits sorted =
-    any_mapped is_wrapped_answered fault_of_limit (exceeded (length sorted + length (plt_functions sorted)) (sum_by entry_rows (map entry_of sorted) + 4 * length (plt_functions sorted))) limit_answered
+    any_mapped is_wrapped_answered fault_of_limit (exceeded (length sorted + length (plt_functions sorted)) (sum_by read_rows (map read_of sorted) + 4 * length (plt_functions sorted))) limit_answered
 
 tried : (at : ℕ) (sorted : List Function) → FaultIn is_answered (plt_link_fault at sorted)
 tried at sorted =
-    earlier is_answered (option_map Gather (or_later (functions_fault (map entry_of sorted)) (plts_fault sorted))) _
-    (mapped is_wrapped_answered is_answered Gather (or_later (functions_fault (map entry_of sorted)) (plts_fault sorted)) (λ fault h. h)
-    (earlier is_wrapped_answered (functions_fault (map entry_of sorted)) (plts_fault sorted) (functions_tried (map entry_of sorted)) (limits sorted)))
+    earlier is_answered (option_map Gather (or_later (functions_fault (map read_of sorted)) (plts_fault sorted))) _
+    (mapped is_wrapped_answered is_answered Gather (or_later (functions_fault (map read_of sorted)) (plts_fault sorted)) (λ fault h. h)
+    (earlier is_wrapped_answered (functions_fault (map read_of sorted)) (plts_fault sorted) (functions_tried (map read_of sorted)) (limits sorted)))
     (any_mapped is_answered OutOfReach (first_out_of_reach at 0 (written_functions sorted)) (λ start. refl))
 
 links_from : (at : ℕ) (given : Result (List Function) GatherFault) (result : Result (List Function) LinkFault) → FaultIs is_gather_refusal given → LinksPltsFrom at given result → FaultIs is_answered result

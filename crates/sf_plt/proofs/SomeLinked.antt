@@ -20,14 +20,14 @@ use Rattle.sf_write.proofs.NumbersFit.{some_section}
 use Rattle.sf_asm.specs.declared.fault.GatherFault.{GatherFault}
 use Rattle.sf_asm.specs.declared.fault.LinkFault.{LinkFault}
 use Rattle.sf_asm.specs.declared.fault.LinkFault.TheVariants as link
-use Rattle.frame_functions.specs.Entry.{omitted_of, spans_of}
+use Rattle.frame_functions.specs.ReadFunction.{omitted_of, spans_of}
 use Rattle.frame_functions.specs.Functions.{Function}
 use Rattle.sf_asm.specs.Functions.{Object, functions_of}
 use Rattle.sf_asm.specs.Inputs.{HaveMachine, all_functions, first_item, mixed_fault}
-use Rattle.frame_functions.specs.Kept.{entry_of, facts_of, kept_functions, omitted_functions}
+use Rattle.frame_functions.specs.Kept.{read_of, facts_of, kept_functions, omitted_functions}
 use Rattle.sf_asm.specs.Linking.{functions_fault, limits_fault, or_later, overlap_in}
 use Rattle.frame_functions.specs.Order.{are_apart}
-use Rattle.frame_functions.specs.Sources.{AreByStart}
+use Rattle.frame_functions.specs.Descriptions.{AreByStart}
 use Rattle.sf_asm.proofs.ByStart.{are_by_start, sorted_functions}
 use Rattle.sf_asm.proofs.Described.{describe}
 use Rattle.sf_asm.proofs.GatheredInputs.{parts_of}
@@ -57,7 +57,7 @@ pub record AreLinked (before : Option Arch) (objects : List Object) (at : ℕ) (
   pub are : functions_of (first_item before) objects ≡ Ok functions
   pub unmixed : mixed_fault before objects ≡ None
   pub by_start : AreByStart functions sorted
-  pub checked : functions_fault (map entry_of sorted) ≡ None
+  pub checked : functions_fault (map read_of sorted) ≡ None
   pub few : plts_fault sorted ≡ None
   pub near : first_out_of_reach at 0 (written_functions sorted) ≡ None
 
@@ -76,9 +76,9 @@ no_fault (Some fault) sorted other e = cc
 linked_with : (before : Option Arch) (objects : List Object) (at : ℕ) (functions sorted : List Function) → functions_of (first_item before) objects ≡ Ok functions → mixed_fault before objects ≡ None → AreByStart functions sorted → plt_link_fault at sorted ≡ None
     → AreLinked before objects at sorted
 linked_with before objects at functions sorted are unmixed order none =
-    let gathered = or_later (functions_fault (map entry_of sorted)) (plts_fault sorted) in
+    let gathered = or_later (functions_fault (map read_of sorted)) (plts_fault sorted) in
     let two = none_of (option_map link.Gather gathered) (option_map link.OutOfReach (first_out_of_reach at 0 (written_functions sorted))) none in
-    let checks = none_of (functions_fault (map entry_of sorted)) (plts_fault sorted) (no_mapped link.Gather gathered two.0) in
+    let checks = none_of (functions_fault (map read_of sorted)) (plts_fault sorted) (no_mapped link.Gather gathered two.0) in
     record {
       functions = functions;
       are = are;
@@ -163,13 +163,13 @@ pub record SomeSection (before : Option Arch) (objects : List Object) (at : ℕ)
 pub some_plt_section : (before : Option Arch) (objects : List Object) (at : ℕ) (sorted : List Function) (arch : Arch) → AreLinked before objects at sorted → HaveMachine before objects arch → All (IsWritable arch) (written_functions sorted)
     → All NumbersFit (written_functions sorted) → SomeSection before objects at
 some_plt_section before objects at sorted arch h machine writable fit =
-    let apart : are_apart 0 (map entry_of sorted) ≡ true =
-    not_overlapping_apart (map entry_of sorted) (apart_from (limits_fault (map entry_of sorted)) (overlap_in (spans_of (map entry_of sorted))) h.checked) in
+    let apart : are_apart 0 (map read_of sorted) ≡ true =
+    not_overlapping_apart (map read_of sorted) (apart_from (limits_fault (map read_of sorted)) (overlap_in (spans_of (map read_of sorted))) h.checked) in
     let made = some_section arch at (written_functions sorted) (are_writable arch sorted apart h.few writable) fit h.near in
     record {
       section = section_bytes arch at (written_functions sorted);
       kept = length (kept_functions sorted);
-      omitted = omitted_of (map entry_of (others_in (omitted_functions sorted)));
+      omitted = omitted_of (map read_of (others_in (omitted_functions sorted)));
       plts = map plt_span (plt_functions sorted);
       are_bytes = made.0;
       linked = record {

@@ -17,12 +17,12 @@ use Rattle.sf_express.specs.Alike.{defined}
 use Rattle.sf_asm.specs.Described.{Describe}
 use Rattle.sf_asm.specs.declared.fault.LinkFault.{LinkFault}
 use Rattle.sf_asm.specs.declared.fault.LinkFault.TheVariants.{NoMemory}
-use Rattle.frame_functions.specs.Entry.{omitted_of}
+use Rattle.frame_functions.specs.ReadFunction.{omitted_of}
 use Rattle.frame_functions.specs.Functions.{Function}
 use Rattle.sf_asm.specs.Functions.{Object}
 use Rattle.sf_asm.specs.Inputs.{HaveMachine, first_item}
-use Rattle.frame_functions.specs.Kept.{entry_of, kept_functions, omitted_functions}
-use Rattle.frame_functions.specs.Sources.{AreByStart}
+use Rattle.frame_functions.specs.Kept.{read_of, kept_functions, omitted_functions}
+use Rattle.frame_functions.specs.Descriptions.{AreByStart}
 use Rattle.sf_plt.specs.Linking.{LinksPlts, plt_link_fault}
 use Rattle.sf_plt.specs.Plt.{is_plt, plt_functions}
 use Rattle.sf_plt.specs.Written.{recovered_with_plts, walk_with_plts, written_functions}
@@ -64,13 +64,13 @@ pub record IsPltLinked (before : Option Arch) (objects : List Object) (at : ℕ)
   pub tight : Tight section at (table_of arch (written_functions sorted))
   pub narrow : Narrow section (table_of arch (written_functions sorted))
   pub kept_is : kept ≡ length (kept_functions sorted)
-  pub omitted_are : omitted ≡ omitted_of (map entry_of (others_in (omitted_functions sorted)))
+  pub omitted_are : omitted ≡ omitted_of (map read_of (others_in (omitted_functions sorted)))
   pub plts_are : plts ≡ map plt_span (plt_functions sorted)
 
 -- the same section, and these are the functions that SFrame can't express, as their records describe them
-pub record IsPltLinkedWith (before : Option Arch) (objects : List Object) (at : ℕ) (section : List ℕ) (kept : ℕ) (omitted : List Omitted) (plts : List Span) (sources : List Function) : Type 0 where
+pub record IsPltLinkedWith (before : Option Arch) (objects : List Object) (at : ℕ) (section : List ℕ) (kept : ℕ) (omitted : List Omitted) (plts : List Span) (descriptions : List Function) : Type 0 where
   pub linked : IsPltLinked before objects at section kept omitted plts
-  pub sources_are : sources ≡ omitted_functions linked.sorted
+  pub descriptions_are : descriptions ≡ omitted_functions linked.sorted
 
 -- the fault is the first one, or memory ran out
 abbrev pub IsFirstPltLinked : (before : Option Arch) → List Object → (at : ℕ) → LinkFault → Type 0

@@ -11,10 +11,10 @@ use Rattle.sf_asm.specs.declared.fault.LinkFault.TheVariants.{Gather, OutOfReach
 use Rattle.frame_functions.specs.Functions.{Function}
 use Rattle.sf_asm.specs.Functions.{Object}
 use Rattle.sf_asm.specs.Described.{DescribeTogether}
-use Rattle.frame_functions.specs.Kept.{entry_of}
+use Rattle.frame_functions.specs.Kept.{read_of}
 use Rattle.sf_asm.specs.Linking.{fault_of_limit, functions_fault, or_later}
-use Rattle.frame_functions.specs.Order.{entry_rows}
-use Rattle.frame_functions.specs.Sources.{AreByStart}
+use Rattle.frame_functions.specs.Order.{read_rows}
+use Rattle.frame_functions.specs.Descriptions.{AreByStart}
 use Rattle.sf_plt.specs.Plt.{plt_functions}
 use Rattle.sf_plt.specs.Written.{written_functions}
 pub use Rattle.sf_model.specs.Firsts.{unless_fault}
@@ -26,13 +26,13 @@ further_fault functions rows plts = option_map fault_of_limit (exceeded (functio
 
 -- the same of functions by rising start, omitted ones included
 unfoldable pub plts_fault : List Function → Option GatherFault
-plts_fault sorted = further_fault (length sorted) (sum_by entry_rows (map entry_of sorted)) (length (plt_functions sorted))
+plts_fault sorted = further_fault (length sorted) (sum_by read_rows (map read_of sorted)) (length (plt_functions sorted))
 
 -- the first fault of functions by rising start: the faults of all links; then the limits with procedure linkage tables; then a function
 -- that is written out of reach
 abbrev pub plt_link_fault : (at : ℕ) → List Function → Option LinkFault
 plt_link_fault at sorted =
-    or_later (option_map Gather (or_later (functions_fault (map entry_of sorted)) (plts_fault sorted)))
+    or_later (option_map Gather (or_later (functions_fault (map read_of sorted)) (plts_fault sorted)))
     (option_map OutOfReach (first_out_of_reach at 0 (written_functions sorted)))
 
 -- linking the functions that the inputs describe, or their fault, for this address has this result

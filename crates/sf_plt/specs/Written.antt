@@ -11,11 +11,11 @@ use Rattle.sf_model.specs.declared.rows.Row.{Row}
 use Rattle.sf_model.specs.Memory.{Region}
 use Rattle.sf_model.specs.Walk.{ThreadState, Listing, Recovering, walk_by}
 use Rattle.cfa_machine.specs.Recovery.{RuleRecovery}
-use Rattle.frame_functions.specs.declared.entry.Expressed.{Expressed}
-use Rattle.frame_functions.specs.declared.entry.Expressed.TheVariants.{Kept, LeftOut}
+use Rattle.frame_functions.specs.declared.read_function.Expressed.{Expressed}
+use Rattle.frame_functions.specs.declared.read_function.Expressed.TheVariants.{Kept, LeftOut}
 use Rattle.frame_functions.specs.Functions.{holds_address, Function}
 use Rattle.sf_asm.specs.Faithful.{if_whole, recovered_at}
-use Rattle.frame_functions.specs.Kept.{entry_of}
+use Rattle.frame_functions.specs.Kept.{read_of}
 use Rattle.sf_plt.specs.Plt.{initial_content, is_plt, plt_functions, recovered_in_plt}
 
 -- ---- the two functions
@@ -60,7 +60,7 @@ written_as f (LeftOut omission) = if is_plt f then plt_pair f else []
 
 -- the functions that are written for one: the function as it is expressed, or two functions, or none
 abbrev pub written_of : Function → List Func
-written_of f = written_as f (entry_of f).outcome
+written_of f = written_as f (read_of f).outcome
 
 -- the functions that are written for all these
 abbrev pub written_functions : List Function → List Func

@@ -5,7 +5,7 @@
 //! its canonical frame address is the value of an expression. The function becomes two: a plain one of its first
 //! 16 bytes, and one of repeated blocks of 16 bytes from there to its end (`specs/Written.antt`). The expression's
 //! value is that of a stack machine over its eleven bytes (`specs/Expression.antt`). A function with another
-//! expression is omitted. [`link_plt_with_sources`] also lends what SFrame can't express as its records describe it.
+//! expression is omitted. [`link_plt_with_descriptions`] also lends what SFrame can't express as its records describe it.
 //!
 //! Laws: at each address of a procedure linkage table the two functions recover what its rules and the expression
 //! recover, for all registers and memory ([`tables_recover_alike`]); and linking has at most one result
@@ -24,4 +24,4 @@ mod table;
 mod text;
 
 pub use laws::{linking_tables_comes_to_one_result, tables_recover_alike};
-pub use linking::{PltLinked, PltLinkedWithSources, link_plt, link_plt_with_sources};
+pub use linking::{PltLinked, PltLinkedWithDescriptions, link_plt, link_plt_with_descriptions};

@@ -8,8 +8,8 @@ ghost use Rattle.sf_plt.specs.Answers.{IsFirstPltLinked, IsPltLinked, IsPltLinke
 
 use crate::limits::{Counts, check_tables};
 use crate::sorting::sort_out;
-use frame_functions::{InputFunctions, Sources};
-use sf_asm::{Input, LinkFault, gather_with_sources};
+use frame_functions::{Descriptions, InputFunctions};
+use sf_asm::{Input, LinkFault, gather_with_descriptions};
 use sf_functions::{count_rows, sort_by_start};
 use sf_model::{Arch, Omitted, Span};
 use sf_write::{StoredList, write_stored};
@@ -30,11 +30,11 @@ pub struct PltLinked {
 
 /// A section with what it holds, and the omitted functions as their records describe them.
 #[derive(Drop)]
-pub struct PltLinkedWithSources<'a> {
+pub struct PltLinkedWithDescriptions<'a> {
     /// The section with what it holds.
     pub linked: PltLinked,
     /// The functions that SFrame can't express, by rising start. The procedure linkage tables are among them.
-    pub sources: Sources<'a>,
+    pub descriptions: Descriptions<'a>,
 }
 
 /// Makes the section of 1 to 512 inputs as [`link_plt`] does, and lends the functions that SFrame can't express.
@@ -42,34 +42,34 @@ pub struct PltLinkedWithSources<'a> {
 /// # Errors
 ///
 /// Those of [`link_plt`].
-pub fn link_plt_with_sources<'a>(
+pub fn link_plt_with_descriptions<'a>(
     alloc: Global,
     inputs: &[Input<'a>],
     at: u64,
     before: Option<Arch>,
-) -> Result<PltLinkedWithSources<'a>, LinkFault>
+) -> Result<PltLinkedWithDescriptions<'a>, LinkFault>
     requires some { (0 < length inputs.now) × (length inputs.now ≤ 512) }
     requires small { All (λ input. length (object_of input).bytes < 2 ^ 32) inputs.now }
-    // The section is that of the inputs' kept functions and procedure linkage tables, these are omitted, and the sources are
+    // The section is that of the inputs' kept functions and procedure linkage tables, these are omitted, and the descriptions are
     // the functions that SFrame can't express.
-    ensures linked { IfOk result (λ made. IsPltLinkedWith before (map object_of inputs.now) at made.linked.section.items made.linked.kept made.linked.omitted.items made.linked.plts.items made.sources.functions) }
+    ensures linked { IfOk result (λ made. IsPltLinkedWith before (map object_of inputs.now) at made.linked.section.items made.linked.kept made.linked.omitted.items made.linked.plts.items made.descriptions.functions) }
     ensures are_bytes { IfOk result (λ made. AreBytes made.linked.section.items) }
     // A fault is the first one.
     ensures fault { IfErr result (IsFirstPltLinked before (map object_of inputs.now) at) }
     ensures answered { IfErr result (λ fault. IsTrue (is_answered fault)) }
 {
-    let gathered = gather_with_sources(alloc, inputs, before)?;
+    let gathered = gather_with_descriptions(alloc, inputs, before)?;
     let InputFunctions {
         arch,
         rows,
         kept,
         omitted,
-        sources,
+        descriptions,
     } = gathered;
     let count = kept.len();
     let functions = count + omitted.len();
     let row_count = count_rows(&kept) as usize;
-    let mut sorted = sort_out(alloc, arch, rows, kept, &omitted, &sources)?;
+    let mut sorted = sort_out(alloc, arch, rows, kept, &omitted, &descriptions)?;
     let tables = sorted.plts.len();
     let counts = Counts {
         functions,
@@ -82,14 +82,14 @@ pub fn link_plt_with_sources<'a>(
     }
     sort_by_start(&mut sorted.written)?;
     let section = write_stored(alloc, arch, at, &sorted.rows, &sorted.written)?;
-    Ok(PltLinkedWithSources {
+    Ok(PltLinkedWithDescriptions {
         linked: PltLinked {
             section,
             kept: count as u32,
             omitted: sorted.omitted,
             plts: sorted.plts,
         },
-        sources,
+        descriptions,
     })
 }
 
@@ -117,5 +117,5 @@ pub fn link_plt(
     ensures fault { IfErr result (IsFirstPltLinked before (map object_of inputs.now) at) }
     ensures answered { IfErr result (λ fault. IsTrue (is_answered fault)) }
 {
-    Ok(link_plt_with_sources(alloc, inputs, at, before)?.linked)
+    Ok(link_plt_with_descriptions(alloc, inputs, at, before)?.linked)
 }

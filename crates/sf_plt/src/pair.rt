@@ -1,10 +1,10 @@
 //! The two functions that are made of a procedure linkage table.
 
 ghost use Rattle.std.specs.Prelude.{◌≡◌, ◌<◌, ◌^◌, [], ◌∷◌, IfOk};
-ghost use Rattle.frame_functions.specs.Sources.{source_function};
+ghost use Rattle.frame_functions.specs.Descriptions.{described_function};
 ghost use Rattle.sf_plt.specs.Written as written;
 
-use frame_functions::Source;
+use frame_functions::Description;
 use sf_base::NoMemory;
 use sf_model::{Content, Func, Row, Rows, Shape};
 use std::alloc::Global;
@@ -42,28 +42,36 @@ fn two_rows(
 }
 
 /// Makes the function of the first entry of a table with this content.
-pub fn first_entry(alloc: Global, source: &Source<'_>, content: Content) -> Result<Func, NoMemory>
-    ensures { IfOk result (λ func. func ≡ written.first_entry (source_function source.now) content) }
+pub fn first_entry(
+    alloc: Global,
+    description: &Description<'_>,
+    content: Content,
+) -> Result<Func, NoMemory>
+    ensures { IfOk result (λ func. func ≡ written.first_entry (described_function description.now) content) }
 {
     Ok(Func {
-        start: source.facts.start,
+        start: description.facts.start,
         size: u32::from(ENTRY_LEN),
         shape: Shape::Plain,
-        key: source.facts.key,
+        key: description.facts.key,
         rows: two_rows(alloc, content, 16, 6, 24)?,
     })
 }
 
 /// Makes the function of the entries after the first one, each a block of 16 bytes.
-pub fn later_entries(alloc: Global, source: &Source<'_>, content: Content) -> Result<Func, NoMemory>
-    requires { (16 < source.now.facts.size) × (source.now.facts.size < 2 ^ 32) }
-    ensures { IfOk result (λ func. func ≡ written.later_entries (source_function source.now) content) }
+pub fn later_entries(
+    alloc: Global,
+    description: &Description<'_>,
+    content: Content,
+) -> Result<Func, NoMemory>
+    requires { (16 < description.now.facts.size) × (description.now.facts.size < 2 ^ 32) }
+    ensures { IfOk result (λ func. func ≡ written.later_entries (described_function description.now) content) }
 {
     Ok(Func {
-        start: source.facts.start + u64::from(ENTRY_LEN),
-        size: (source.facts.size - u64::from(ENTRY_LEN)) as u32,
+        start: description.facts.start + u64::from(ENTRY_LEN),
+        size: (description.facts.size - u64::from(ENTRY_LEN)) as u32,
         shape: Shape::Repeat(ENTRY_LEN),
-        key: source.facts.key,
+        key: description.facts.key,
         rows: two_rows(alloc, content, 8, 11, 16)?,
     })
 }

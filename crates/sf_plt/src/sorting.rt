@@ -4,9 +4,9 @@ ghost use Rattle.std.specs.Prelude.{◌≡◌, ◌++◌, ◌∷◌, [], All, Som
 ghost use Rattle.std.specs.List.{filter, flat_map};
 ghost use Rattle.sf_model.specs.Function.{IsWritable};
 ghost use Rattle.sf_write.specs.Stored.{IsStored, stored_in};
-ghost use Rattle.frame_functions.specs.Entry.{omitted_of};
-ghost use Rattle.frame_functions.specs.Kept.{entry_of};
-ghost use Rattle.frame_functions.specs.Sources.{source_function};
+ghost use Rattle.frame_functions.specs.ReadFunction.{omitted_of};
+ghost use Rattle.frame_functions.specs.Kept.{read_of};
+ghost use Rattle.frame_functions.specs.Descriptions.{described_function};
 ghost use Rattle.sf_plt.specs.Answers.{others_in, plt_span};
 ghost use Rattle.sf_plt.specs.Plt.{initial_content, is_plt};
 ghost use Rattle.sf_plt.specs.Sorting.{AreOmitted};
@@ -14,7 +14,7 @@ ghost use Rattle.sf_plt.specs.Written.{plt_pair};
 
 use crate::pair::{first_entry, later_entries};
 use crate::table::table_content;
-use frame_functions::{Head, Source, Sources};
+use frame_functions::{Description, Descriptions, ListedFunction};
 use sf_base::NoMemory;
 use sf_functions::FunctionsWithRows;
 use sf_model::{Arch, Content, Func, Omitted, Span};
@@ -23,7 +23,7 @@ use std::alloc::Global;
 
 /// Functions that are written, and omitted functions: procedure linkage tables, and the others.
 #[derive(Drop)]
-pub struct Sorted {
+pub struct FunctionsAndTables {
     /// The rows of the functions that are written.
     pub rows: StoredRows,
     /// The functions that are written.
@@ -34,7 +34,7 @@ pub struct Sorted {
     pub omitted: Vec<Omitted>,
 }
 
-impl Sorted {
+impl FunctionsAndTables {
     /// Adds a function that is written.
     fn add(&mut self, arch: Arch, func: &Func) -> Result<(), NoMemory>
         requires writable { IsWritable arch func.now }
@@ -54,36 +54,39 @@ impl Sorted {
         &mut self,
         alloc: Global,
         arch: Arch,
-        source: &Source<'_>,
+        description: &Description<'_>,
         content: Content,
     ) -> Result<(), NoMemory>
-        requires table { is_plt (source_function source.now) ≡ true }
-        requires content { initial_content (source_function source.now) ≡ Some content }
-        requires machine { source.now.arch ≡ arch }
+        requires table { is_plt (described_function description.now) ≡ true }
+        requires content { initial_content (described_function description.now) ≡ Some content }
+        requires machine { description.now.arch ≡ arch }
         requires stored { All (IsStored self.old.rows) self.old.written.items }
         requires sound { All (IsWritable arch) (map (stored_in self.old.rows) self.old.written.items) }
         ensures stored { OnOk result (All (IsStored self.new.rows) self.new.written.items) }
-        ensures written { OnOk result (map (stored_in self.new.rows) self.new.written.items ≡ map (stored_in self.old.rows) self.old.written.items ++ plt_pair (source_function source.now)) }
-        ensures plts { OnOk result (self.new.plts.items ≡ self.old.plts.items ++ plt_span (source_function source.now) ∷ []) }
+        ensures written { OnOk result (map (stored_in self.new.rows) self.new.written.items ≡ map (stored_in self.old.rows) self.old.written.items ++ plt_pair (described_function description.now)) }
+        ensures plts { OnOk result (self.new.plts.items ≡ self.old.plts.items ++ plt_span (described_function description.now) ∷ []) }
         ensures omitted { OnOk result (self.new.omitted ≡ self.old.omitted) }
         ensures sound { OnOk result (All (IsWritable arch) (map (stored_in self.new.rows) self.new.written.items)) }
     {
-        let facts = source.facts;
-        let first = first_entry(alloc, source, content)?;
+        let facts = description.facts;
+        let first = first_entry(alloc, description, content)?;
         self.add(arch, &first)?;
-        let later = later_entries(alloc, source, content)?;
+        let later = later_entries(alloc, description, content)?;
         self.add(arch, &later)?;
         self.plts.push(Span {
             start: facts.start,
             size: facts.size,
-            origin: source.origin,
+            origin: description.origin,
         })?;
         Ok(())
     }
 }
 
 /// Lists the kept functions.
-fn listed(alloc: Global, kept: FunctionsWithRows<Head>) -> Result<Vec<StoredFunction>, NoMemory>
+fn listed(
+    alloc: Global,
+    kept: FunctionsWithRows<ListedFunction>,
+) -> Result<Vec<StoredFunction>, NoMemory>
     ensures { IfOk result (λ functions. functions.items ≡ kept) }
 {
     let mut functions = Vec::with_capacity(alloc, kept.len())?;
@@ -94,36 +97,36 @@ fn listed(alloc: Global, kept: FunctionsWithRows<Head>) -> Result<Vec<StoredFunc
 }
 
 /// Adds two functions for each procedure linkage table among the omitted functions to those that are kept, whose rows are
-/// these. The sources are those of the omitted functions.
+/// these. The descriptions are those of the omitted functions.
 pub fn sort_out(
     alloc: Global,
     arch: Arch,
     rows: StoredRows,
-    kept: FunctionsWithRows<Head>,
+    kept: FunctionsWithRows<ListedFunction>,
     omitted: &[Omitted],
-    sources: &Sources<'_>,
-) -> Result<Sorted, NoMemory>
-    requires left { AreOmitted sources.now.functions }
-    requires omitted { omitted.now ≡ omitted_of (map entry_of sources.now.functions) }
-    requires machine { All (λ f. f.arch ≡ arch) sources.now.functions }
+    descriptions: &Descriptions<'_>,
+) -> Result<FunctionsAndTables, NoMemory>
+    requires left { AreOmitted descriptions.now.functions }
+    requires omitted { omitted.now ≡ omitted_of (map read_of descriptions.now.functions) }
+    requires machine { All (λ f. f.arch ≡ arch) descriptions.now.functions }
     requires stored { All (IsStored rows) kept }
     requires sound { All (IsWritable arch) (map (stored_in rows) kept) }
     ensures stored { IfOk result (λ sorted. All (IsStored sorted.rows) sorted.written.items) }
-    ensures written { IfOk result (λ sorted. map (stored_in sorted.rows) sorted.written.items ≡ map (stored_in rows) kept ++ flat_map plt_pair (filter is_plt sources.now.functions)) }
-    ensures plts { IfOk result (λ sorted. sorted.plts.items ≡ map plt_span (filter is_plt sources.now.functions)) }
-    ensures omitted { IfOk result (λ sorted. sorted.omitted.items ≡ omitted_of (map entry_of (others_in sources.now.functions))) }
+    ensures written { IfOk result (λ sorted. map (stored_in sorted.rows) sorted.written.items ≡ map (stored_in rows) kept ++ flat_map plt_pair (filter is_plt descriptions.now.functions)) }
+    ensures plts { IfOk result (λ sorted. sorted.plts.items ≡ map plt_span (filter is_plt descriptions.now.functions)) }
+    ensures omitted { IfOk result (λ sorted. sorted.omitted.items ≡ omitted_of (map read_of (others_in descriptions.now.functions))) }
     ensures sound { IfOk result (λ sorted. All (IsWritable arch) (map (stored_in sorted.rows) sorted.written.items)) }
 {
-    let mut sorted = Sorted {
+    let mut sorted = FunctionsAndTables {
         rows,
         written: listed(alloc, kept)?,
         plts: Vec::new(alloc),
         omitted: Vec::new(alloc),
     };
     for (number, line) in omitted.iter().enumerate() {
-        let source = sources.get(number);
-        match table_content(&source) {
-            Some(content) => sorted.add_table(alloc, arch, &source, content)?,
+        let description = descriptions.get(number);
+        match table_content(&description) {
+            Some(content) => sorted.add_table(alloc, arch, &description, content)?,
             None => sorted.omitted.push(*line)?,
         }
     }

@@ -1,7 +1,7 @@
 -- Inputs that can be linked are those of which a run of `link` refuses nothing.
 use Rattle.std.proofs.Common.{◌≡◌, ℕ, List, Option, Some, None, Result, Ok, Err, refl, sym, subst}
 use Rattle.sf_asm.specs.Accepted.{IsAccepted}
-use Rattle.frame_functions.specs.declared.entry.Entry.{Entry}
+use Rattle.frame_functions.specs.declared.read_function.ReadFunction.{ReadFunction}
 use Rattle.sf_asm.specs.declared.fault.GatherFault.TheVariants as gather
 use Rattle.sf_asm.specs.declared.fault.LinkFault.{LinkFault}
 use Rattle.sf_asm.specs.declared.fault.LinkFault.TheVariants as link
@@ -47,11 +47,11 @@ linking_refuses (link.Gather (gather.Input item fault)) = tt
 linking_refuses (link.Gather (gather.MixedArch first item)) = tt
 linking_refuses (link.Gather (gather.Overlap s i t j)) = tt
 
-makes_of : (link : SectionAndInputs) (items : List (List ℕ)) (ordered : List Entry) → Links None (objects_in link.inputs items) link.section.at (Ok ordered) → (coming : Coming) → LinkComes link items coming
+makes_of : (link : SectionAndInputs) (items : List (List ℕ)) (ordered : List ReadFunction) → Links None (objects_in link.inputs items) link.section.at (Ok ordered) → (coming : Coming) → LinkComes link items coming
     → MakesLinked None (objects_in link.inputs items) link.section.at section_and_report coming
 makes_of link items ordered links coming h =
     let objects = objects_in link.inputs items in
-    subst (λ (r : Result (List Entry) LinkFault). LinkedComesFrom None objects link.section.at section_and_report r coming) (one_result None objects link.section.at h.result (Ok ordered) h.links links) h.comes
+    subst (λ (r : Result (List ReadFunction) LinkFault). LinkedComesFrom None objects link.section.at section_and_report r coming) (one_result None objects link.section.at h.result (Ok ordered) h.links links) h.comes
 
 no_refusal : (link : SectionAndInputs) (items : List (List ℕ)) (coming : Coming) → Refuses coming → MakesLinked None (objects_in link.inputs items) link.section.at section_and_report coming → ⊥
 no_refusal link items coming is made = subst Refuses made.is is
@@ -73,7 +73,7 @@ nothing_refused_is_accepted link items nothing = (within, accepted (links_some (
     within : command_limit (Link link) items ≡ None
     within = no_limit (Link link) items nothing
 
-    accepted : (result : Result (List Entry) LinkFault) × Links None (objects_in link.inputs items) link.section.at result → IsAccepted None (objects_in link.inputs items) link.section.at
+    accepted : (result : Result (List ReadFunction) LinkFault) × Links None (objects_in link.inputs items) link.section.at result → IsAccepted None (objects_in link.inputs items) link.section.at
     accepted (Ok ordered, links) = links_accepted None (objects_in link.inputs items) link.section.at ordered links
     accepted (Err fault, links) =
         absurd (refuted (Link link) items nothing (coming_of_linking fault) (linking_refuses fault)

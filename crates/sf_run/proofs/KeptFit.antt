@@ -40,14 +40,14 @@ use Rattle.sf_express.specs.Expressed.{reason_of}
 use Rattle.sf_express.specs.Rules.{◌>>=◌ as ◌>>>◌, base_of, cfa_from, cfa_content, content_of, fits_i32, frame_pointer_content, frame_pointer_at, is_minus_8, narrowed, frame_pointer_needs_return_address, return_address_content, return_address_at, sign_state_check, stack_pointer_check}
 use Rattle.sf_express.specs.Runs.{Saying, begins, expressed, first_against, function_of, omission_of, row_there, rows_of, unless_omitted, whole_or_row}
 use Rattle.sf_express.proofs.Writable.{made}
-use Rattle.frame_functions.specs.declared.entry.Entry.{Entry}
-use Rattle.frame_functions.specs.declared.entry.Expressed.{Expressed}
-use Rattle.frame_functions.specs.declared.entry.Expressed.TheVariants.{Kept, LeftOut}
-use Rattle.frame_functions.specs.Entry.{IsSound, IsSoundOutcome, kept_in, kept_of}
+use Rattle.frame_functions.specs.declared.read_function.ReadFunction.{ReadFunction}
+use Rattle.frame_functions.specs.declared.read_function.Expressed.{Expressed}
+use Rattle.frame_functions.specs.declared.read_function.Expressed.TheVariants.{Kept, LeftOut}
+use Rattle.frame_functions.specs.ReadFunction.{IsSound, IsSoundOutcome, kept_in, kept_of}
 use Rattle.frame_functions.specs.CallFrames.{CallFrames}
 use Rattle.frame_functions.specs.Functions.{Function, fault_in, function_at, function_in, functions_in, section_functions, sections_functions, span_in}
 use Rattle.sf_asm.specs.Functions.{◌>>=◌, Object, functions_after, functions_of, machine_of, named, object_functions, seen_behind, sections_of, unless}
-use Rattle.frame_functions.specs.Kept.{entry_of, facts_of, outcome_by, says_of}
+use Rattle.frame_functions.specs.Kept.{read_of, facts_of, outcome_by, says_of}
 use Rattle.frame_functions.specs.Relocated.{Values, on_pointers, patched_values}
 use Rattle.frame_functions.proofs.MadeRows.{first_of, made_of, outcome_is_sound, outcome_means}
 use Rattle.frame_functions.proofs.MadeRows.{rows_of as instruction_rows}
@@ -345,9 +345,9 @@ sound_by f (Ok g) e end key runs =
     let means : there.0 ≡ outcome_by (Ok g) = outcome_means f there.0 (omega (small, arith)) there.1 ∙ ap outcome_by e in
     subst (IsSoundOutcome f.arch f.start f.size) means (outcome_is_sound f there.0 end key there.1)
 
-pub entry_sound : (arch : Arch) (f : Function) → IsRead arch f → IsSound arch (entry_of f)
+pub entry_sound : (arch : Arch) (f : Function) → IsRead arch f → IsSound arch (read_of f)
 entry_sound arch f h =
-    subst (λ (a : Arch). IsSoundOutcome a f.start f.size (entry_of f).outcome) h.machine (sound_by f (function_of f.arch (facts_of f) (says_of f)) refl h.end h.key h.runs)
+    subst (λ (a : Arch). IsSoundOutcome a f.start f.size (read_of f).outcome) h.machine (sound_by f (function_of f.arch (facts_of f) (says_of f)) refl h.end h.key h.runs)
 
 -- its numbers fit, where it is kept
 abbrev pub OutcomeFits : Expressed → Type 0
@@ -358,15 +358,15 @@ outcome_fits : (f : Function) (x : Result Func Omission) → function_of f.arch 
 outcome_fits f (Ok g) e = expressed_fits f.arch (facts_of f) (says_of f) g (λ offset. content_in f.arch _) e
 outcome_fits f (Err omission) e = tt
 
-pub entry_fits : (f : Function) → OutcomeFits (entry_of f).outcome
+pub entry_fits : (f : Function) → OutcomeFits (read_of f).outcome
 entry_fits f = outcome_fits f (function_of f.arch (facts_of f) (says_of f)) refl
 
-kept_fits : (e : Entry) (g : Func) (outcome : Expressed) → OutcomeFits outcome → kept_in outcome ≡ Some g → NumbersFit g
+kept_fits : (e : ReadFunction) (g : Func) (outcome : Expressed) → OutcomeFits outcome → kept_in outcome ≡ Some g → NumbersFit g
 kept_fits e g (Kept h) fits is = let same : h ≡ g = cc in subst NumbersFit same fits
 kept_fits e g (LeftOut omission) fits is = cc
 
-pub all_kept_fit : (entries : List Entry) → All (λ (e : Entry). OutcomeFits e.outcome) entries → All NumbersFit (kept_of entries)
-all_kept_fit entries all = all_said (λ (e : Entry). OutcomeFits e.outcome) NumbersFit (λ (e : Entry). kept_in e.outcome) (λ e g fits is. kept_fits e g e.outcome fits is) entries all
+pub all_kept_fit : (entries : List ReadFunction) → All (λ (e : ReadFunction). OutcomeFits e.outcome) entries → All NumbersFit (kept_of entries)
+all_kept_fit entries all = all_said (λ (e : ReadFunction). OutcomeFits e.outcome) NumbersFit (λ (e : ReadFunction). kept_in e.outcome) (λ e g fits is. kept_fits e g e.outcome fits is) entries all
 
 pub functions_read : (arch : Arch) (item : ℕ) (objects : List Object) (functions : List Function) → All (Is arch) (map machine_of objects) → functions_of item objects ≡ Ok functions → All (IsRead arch) functions
 functions_read arch item objects functions machines e = objects_read arch [] item objects functions machines e

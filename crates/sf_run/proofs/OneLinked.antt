@@ -12,16 +12,16 @@ use Rattle.sf_write.specs.Section.{table_of}
 use Rattle.sf_decode.specs.declared.fault.DecodeFault.{DecodeFault}
 use Rattle.elf_read.specs.Header.{arch_of}
 use Rattle.core_notes.specs.declared.fault.CoreFault.{CoreFault}
-use Rattle.frame_functions.specs.declared.entry.Entry.{Entry}
+use Rattle.frame_functions.specs.declared.read_function.ReadFunction.{ReadFunction}
 use Rattle.sf_asm.specs.declared.fault.LinkFault.{LinkFault}
 use Rattle.sf_asm.specs.Answers.{IsLinked}
-use Rattle.frame_functions.specs.Entry.{kept_of, omitted_of}
+use Rattle.frame_functions.specs.ReadFunction.{kept_of, omitted_of}
 use Rattle.frame_functions.specs.Functions.{Function}
 use Rattle.sf_asm.specs.Functions.{Object}
 use Rattle.sf_asm.specs.Inputs.{HaveMachine, first_item}
-use Rattle.frame_functions.specs.Kept.{entry_of, kept_functions, omitted_functions}
+use Rattle.frame_functions.specs.Kept.{read_of, kept_functions, omitted_functions}
 use Rattle.frame_functions.specs.Order.{InOrder}
-use Rattle.frame_functions.specs.Sources.{AreByStart}
+use Rattle.frame_functions.specs.Descriptions.{AreByStart}
 use Rattle.sf_asm.proofs.Described.{described}
 use Rattle.sf_asm.proofs.OneOrder.{one_order, one_result}
 use Rattle.sf_plt.specs.Answers.{IsPltLinked, others_in, plt_span}
@@ -58,12 +58,12 @@ one_linked : (before : Option Arch) (objects : List Object) (at : ℕ) (s t : Li
 one_linked before objects at s t j k m n some x y p q =
     let both : Ok p.functions ≡ Ok q.functions = sym (described (first_item before) objects (Ok p.functions) p.are) ∙ described (first_item before) objects (Ok q.functions) q.are in
     let functions : p.functions ≡ q.functions = cc in
-    let ordered : p.ordered ≡ q.ordered = one_order (map entry_of q.functions) p.ordered q.ordered (subst (λ (fs : List Function). InOrder (map entry_of fs) p.ordered) functions p.in_order) q.in_order in
+    let ordered : p.ordered ≡ q.ordered = one_order (map read_of q.functions) p.ordered q.ordered (subst (λ (fs : List Function). InOrder (map read_of fs) p.ordered) functions p.in_order) q.in_order in
     let arch = one_machine before objects some p.arch q.arch p.machine q.machine in
-    let table : table_of p.arch (kept_of p.ordered) ≡ table_of q.arch (kept_of q.ordered) = ap (λ (a : Arch). table_of a (kept_of p.ordered)) arch ∙ ap (λ (es : List Entry). table_of q.arch (kept_of es)) ordered in (
+    let table : table_of p.arch (kept_of p.ordered) ≡ table_of q.arch (kept_of q.ordered) = ap (λ (a : Arch). table_of a (kept_of p.ordered)) arch ∙ ap (λ (es : List ReadFunction). table_of q.arch (kept_of es)) ordered in (
       functions,
       tight_one s t at (table_of q.arch (kept_of q.ordered)) x y (subst (Tight s at) table p.tight) q.tight (subst (Narrow s) table p.narrow) q.narrow,
-      p.kept_is ∙ ap (λ (es : List Entry). length (kept_of es)) ordered ∙ sym q.kept_is,
+      p.kept_is ∙ ap (λ (es : List ReadFunction). length (kept_of es)) ordered ∙ sym q.kept_is,
       p.omitted_are ∙ ap omitted_of ordered ∙ sym q.omitted_are,
     )
 
@@ -73,14 +73,14 @@ one_made before objects at made c d some p q =
     p.is ∙ ap (λ (fs : List Function). made fs p.section p.kept p.omitted) same.0 ∙ ap (λ (s : List ℕ). made q.linked.functions s p.kept p.omitted) same.1
     ∙ ap (λ (k : ℕ). made q.linked.functions q.section k p.omitted) same.2 ∙ ap (made q.linked.functions q.section q.kept) same.3 ∙ sym q.is
 
-one_from_links : (before : Option Arch) (objects : List Object) (at : ℕ) (made : Makings) (result : Result (List Entry) LinkFault) (c d : Coming) → 0 < length objects → LinkedComesFrom before objects at made result c → LinkedComesFrom before objects at made result d → c ≡ d
+one_from_links : (before : Option Arch) (objects : List Object) (at : ℕ) (made : Makings) (result : Result (List ReadFunction) LinkFault) (c d : Coming) → 0 < length objects → LinkedComesFrom before objects at made result c → LinkedComesFrom before objects at made result d → c ≡ d
 one_from_links before objects at made (Err fault) c d some p q = p ∙ sym q
 one_from_links before objects at made (Ok ordered) c d some p q = one_made before objects at made c d some p q
 
 pub one_link : (before : Option Arch) (objects : List Object) (at : ℕ) (made : Makings) (c d : Coming) → 0 < length objects → LinkedComes before objects at made c → LinkedComes before objects at made d → c ≡ d
 one_link before objects at made c d some p q =
     let result = one_result before objects at p.result q.result p.links q.links in
-    one_from_links before objects at made q.result c d some (subst (λ (r : Result (List Entry) LinkFault). LinkedComesFrom before objects at made r c) result p.comes) q.comes
+    one_from_links before objects at made q.result c d some (subst (λ (r : Result (List ReadFunction) LinkFault). LinkedComesFrom before objects at made r c) result p.comes) q.comes
 
 -- ---- linkplt
 one_plt_linked : (objects : List Object) (at : ℕ) (s t : List ℕ) (j k : ℕ) (m n : List Omitted) (u v : List Span) → 0 < length objects → AreBytes s → AreBytes t → IsPltLinked None objects at s j m u → IsPltLinked None objects at t k n v
@@ -93,7 +93,7 @@ one_plt_linked objects at s t j k m n u v some x y p q =
     let table : table_of p.arch (written_functions p.sorted) ≡ table_of q.arch (written_functions q.sorted) = ap (λ (a : Arch). table_of a (written_functions p.sorted)) arch ∙ ap (λ (fs : List Function). table_of q.arch (written_functions fs)) sorted in (
       tight_one s t at (table_of q.arch (written_functions q.sorted)) x y (subst (Tight s at) table p.tight) q.tight (subst (Narrow s) table p.narrow) q.narrow,
       p.kept_is ∙ ap (λ (fs : List Function). length (kept_functions fs)) sorted ∙ sym q.kept_is,
-      p.omitted_are ∙ ap (λ (fs : List Function). omitted_of (map entry_of (others_in (omitted_functions fs)))) sorted ∙ sym q.omitted_are,
+      p.omitted_are ∙ ap (λ (fs : List Function). omitted_of (map read_of (others_in (omitted_functions fs)))) sorted ∙ sym q.omitted_are,
       p.plts_are ∙ ap (λ (fs : List Function). map plt_span (plt_functions fs)) sorted ∙ sym q.plts_are,
     )
 

@@ -10,7 +10,7 @@ use Rattle.frame_functions.specs.Functions.{Function}
 use Rattle.sf_asm.specs.Functions.{Object}
 use Rattle.sf_asm.specs.Inputs.{HaveMachine}
 use Rattle.frame_functions.specs.Kept.{omitted_functions}
-use Rattle.frame_functions.specs.Sources.{AreByStart}
+use Rattle.frame_functions.specs.Descriptions.{AreByStart}
 use Rattle.sf_asm.proofs.Described.{described}
 use Rattle.sf_plt.specs.Linking.{LinksPlts}
 use Rattle.sf_plt.specs.Written.{written_functions}

@@ -13,16 +13,16 @@ use Rattle.sf_write.proofs.NumbersFit.{some_section}
 use Rattle.elf_read.specs.Header.{arch_of}
 use Rattle.core_notes.specs.declared.fault.CoreFault.{CoreFault}
 use Rattle.sf_merge.proofs.Insertion.{moved, ordered, sorted, stable}
-use Rattle.frame_functions.specs.declared.entry.Entry.{Entry}
+use Rattle.frame_functions.specs.declared.read_function.ReadFunction.{ReadFunction}
 use Rattle.sf_asm.specs.declared.fault.GatherFault.{GatherFault}
 use Rattle.sf_asm.specs.declared.fault.LinkFault.{LinkFault}
 use Rattle.sf_asm.specs.declared.fault.LinkFault.TheVariants.{Gather, OutOfReach}
 use Rattle.sf_asm.specs.Answers.{IsLinked}
-use Rattle.frame_functions.specs.Entry.{IsSound, kept_of, omitted_of}
+use Rattle.frame_functions.specs.ReadFunction.{IsSound, kept_of, omitted_of}
 use Rattle.frame_functions.specs.Functions.{Function}
 use Rattle.sf_asm.specs.Functions.{Object, machine_of}
 use Rattle.sf_asm.specs.Inputs.{HaveMachine, all_functions, first_item}
-use Rattle.frame_functions.specs.Kept.{entry_of}
+use Rattle.frame_functions.specs.Kept.{read_of}
 use Rattle.frame_functions.specs.Order.{InOrder, start_of}
 use Rattle.sf_asm.specs.Linking.{GathersFrom, Links, LinksFrom, functions_fault, link_fault, or_later, unless_fault}
 use Rattle.sf_asm.proofs.Accepting.{links_accepted}
@@ -37,11 +37,11 @@ use Rattle.sf_run.specs.Linked.{LinkedComes, LinkedComesFrom, Makings, coming_of
 use Rattle.sf_run.proofs.KeptFit.{OutcomeFits, all_kept_fit, entry_fits, entry_sound, functions_read}
 
 -- ---- linking
-in_order : (functions : List Function) → (es : List Entry) × InOrder (map entry_of functions) es
+in_order : (functions : List Function) → (es : List ReadFunction) × InOrder (map read_of functions) es
 in_order functions =
-    let before : Entry → Entry → Bool = λ a b. is_lt (nat_cmp (start_of a) (start_of b)) in
+    let before : ReadFunction → ReadFunction → Bool = λ a b. is_lt (nat_cmp (start_of a) (start_of b)) in
     let ranked = ranks_by nat_cmp_total start_of in
-    let all = map entry_of functions in (
+    let all = map read_of functions in (
       ordered before ranked all,
       record {
         moved = moved before ranked all;
@@ -50,36 +50,36 @@ in_order functions =
       },
     )
 
-some_from : (at : ℕ) (given : Result (List Function) GatherFault) → (result : Result (List Entry) LinkFault) × LinksFrom at given result
+some_from : (at : ℕ) (given : Result (List Function) GatherFault) → (result : Result (List ReadFunction) LinkFault) × LinksFrom at given result
 some_from at (Ok functions) = let o = in_order functions in (unless_fault (link_fault at o.0) o.0, (o.0, o.1, refl))
 some_from at (Err fault) = (Err (Gather fault), refl)
 
 -- linking inputs comes to a result
-pub some_links : (before : Option Arch) (objects : List Object) (at : ℕ) → (result : Result (List Entry) LinkFault) × Links before objects at result
+pub some_links : (before : Option Arch) (objects : List Object) (at : ℕ) → (result : Result (List ReadFunction) LinkFault) × Links before objects at result
 some_links before objects at = let some = some_from at (all_functions before objects) in (some.0, to_links before objects at some.0 some.1)
 
-pub links_some : (objects : List Object) (at : ℕ) → (result : Result (List Entry) LinkFault) × Links None objects at result
+pub links_some : (objects : List Object) (at : ℕ) → (result : Result (List ReadFunction) LinkFault) × Links None objects at result
 links_some objects at = some_links None objects at
 
 -- what was linked was gathered, and each start is in reach
-record WereGathered (at : ℕ) (given : Result (List Function) GatherFault) (entries : List Entry) : Type 0 where
+record WereGathered (at : ℕ) (given : Result (List Function) GatherFault) (entries : List ReadFunction) : Type 0 where
   gathered : GathersFrom given (Ok entries)
   near : first_out_of_reach at 0 (kept_of entries) ≡ None
 
-by_faults : (at : ℕ) (functions : List Function) (entries others : List Entry) (gather : Option GatherFault) (far : Option ℕ) → InOrder (map entry_of functions) others → functions_fault others ≡ gather → first_out_of_reach at 0 (kept_of others) ≡ far
+by_faults : (at : ℕ) (functions : List Function) (entries others : List ReadFunction) (gather : Option GatherFault) (far : Option ℕ) → InOrder (map read_of functions) others → functions_fault others ≡ gather → first_out_of_reach at 0 (kept_of others) ≡ far
     → Ok entries ≡ unless_fault (or_later (option_map Gather gather) (option_map OutOfReach far)) others → WereGathered at (Ok functions) entries
 by_faults at functions entries others None None order p q e =
     let is : others ≡ entries = cc in
-    let clear : functions_fault entries ≡ None = subst (λ (es : List Entry). functions_fault es ≡ None) is p in
+    let clear : functions_fault entries ≡ None = subst (λ (es : List ReadFunction). functions_fault es ≡ None) is p in
     let same : Ok entries ≡ unless_fault (functions_fault entries) entries = rw clear refl in
     record {
-      gathered = (entries, subst (InOrder (map entry_of functions)) is order, same);
-      near = subst (λ (es : List Entry). first_out_of_reach at 0 (kept_of es) ≡ None) is q;
+      gathered = (entries, subst (InOrder (map read_of functions)) is order, same);
+      near = subst (λ (es : List ReadFunction). first_out_of_reach at 0 (kept_of es) ≡ None) is q;
     }
 by_faults at functions entries others None (Some start) order p q e = cc
 by_faults at functions entries others (Some fault) far order p q e = cc
 
-were_gathered : (at : ℕ) (given : Result (List Function) GatherFault) (entries : List Entry) → LinksFrom at given (Ok entries) → WereGathered at given entries
+were_gathered : (at : ℕ) (given : Result (List Function) GatherFault) (entries : List ReadFunction) → LinksFrom at given (Ok entries) → WereGathered at given entries
 were_gathered at (Ok functions) entries (others, order, e) =
     by_faults at functions entries others (functions_fault others) (first_out_of_reach at 0 (kept_of others)) order refl refl e
 were_gathered at (Err fault) entries e = cc
@@ -92,21 +92,21 @@ inputs_have (Some first) objects arch h = All-tail (λ (machine : Arch). machine
 record LinkedSection (before : Option Arch) (objects : List Object) (at : ℕ) : Type 0 where
   section : List ℕ
   kept : ℕ
-  entries : List Entry
+  entries : List ReadFunction
   are_bytes : AreBytes section
   linked : IsLinked before objects at section kept (omitted_of entries)
 
-some_linked_section : (before : Option Arch) (objects : List Object) (at : ℕ) (entries : List Entry) → Links before objects at (Ok entries) → LinkedSection before objects at
+some_linked_section : (before : Option Arch) (objects : List Object) (at : ℕ) (entries : List ReadFunction) → Links before objects at (Ok entries) → LinkedSection before objects at
 some_linked_section before objects at entries h =
     let were = were_gathered at (all_functions before objects) entries (from_links before objects at (Ok entries) h) in
     let read = are_read before objects entries (to_gathers before objects (Ok entries) were.gathered) in
     let accepted = (links_accepted before objects at entries h).gathered in
     let arch = accepted.arch in
     let functions = functions_read arch (first_item before) objects read.functions (inputs_have before objects arch accepted.machine) read.are in
-    let sound = All-permutation (IsSound arch) (map entry_of read.functions) entries read.in_order.moved
-    (All-map (IsSound arch) entry_of read.functions (λ k d lt. entry_sound arch (get_or read.functions k d) (functions k d lt))) in
-    let fits = All-permutation (λ (e : Entry). OutcomeFits e.outcome) (map entry_of read.functions) entries read.in_order.moved
-    (All-map (λ (e : Entry). OutcomeFits e.outcome) entry_of read.functions (λ k d lt. entry_fits (get_or read.functions k d))) in
+    let sound = All-permutation (IsSound arch) (map read_of read.functions) entries read.in_order.moved
+    (All-map (IsSound arch) read_of read.functions (λ k d lt. entry_sound arch (get_or read.functions k d) (functions k d lt))) in
+    let fits = All-permutation (λ (e : ReadFunction). OutcomeFits e.outcome) (map read_of read.functions) entries read.in_order.moved
+    (All-map (λ (e : ReadFunction). OutcomeFits e.outcome) read_of read.functions (λ k d lt. entry_fits (get_or read.functions k d))) in
     let made = some_section arch at (kept_of entries) (kept_of_checked arch entries sound read.checked) (all_kept_fit entries fits) were.near in
     record {
       section = section_bytes arch at (kept_of entries);
@@ -117,7 +117,7 @@ some_linked_section before objects at entries h =
           refl refl made.1.section made.1 made.2 were.near refl;
     }
 
-some_linking : (before : Option Arch) (objects : List Object) (at : ℕ) (made : Makings) (result : Result (List Entry) LinkFault) → Links before objects at result → (coming : Coming) × LinkedComesFrom before objects at made result coming
+some_linking : (before : Option Arch) (objects : List Object) (at : ℕ) (made : Makings) (result : Result (List ReadFunction) LinkFault) → Links before objects at result → (coming : Coming) × LinkedComesFrom before objects at made result coming
 some_linking before objects at made (Err fault) h = (coming_of_linking fault, refl)
 some_linking before objects at made (Ok entries) h =
     let s = some_linked_section before objects at entries h in

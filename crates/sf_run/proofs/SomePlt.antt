@@ -8,7 +8,7 @@ use Rattle.sf_model.specs.Function.{IsWritable}
 use Rattle.sf_write.specs.Numbers.{NumbersFit}
 use Rattle.cfa_machine.specs.Columns.{row_from}
 use Rattle.sf_asm.specs.declared.fault.LinkFault.{LinkFault}
-use Rattle.frame_functions.specs.Entry.{IsSoundOutcome}
+use Rattle.frame_functions.specs.ReadFunction.{IsSoundOutcome}
 use Rattle.frame_functions.specs.Functions.{Function}
 use Rattle.sf_asm.specs.Functions.{Object}
 use Rattle.sf_asm.specs.Inputs.{machines_of}

@@ -9,7 +9,7 @@ use Rattle.elf_read.specs.Header.{arch_of}
 use Rattle.core_notes.specs.declared.fault.CoreFault.{CoreFault}
 use Rattle.core_notes.specs.declared.fault.CoreFault.TheVariants as core_fault
 use Rattle.core_notes.specs.Checks.{core_check}
-use Rattle.frame_functions.specs.declared.entry.Entry.{Entry}
+use Rattle.frame_functions.specs.declared.read_function.ReadFunction.{ReadFunction}
 use Rattle.sf_asm.specs.declared.fault.LinkFault.{LinkFault}
 use Rattle.sf_asm.specs.Functions.{Object}
 use Rattle.sf_merge.specs.Merging.{same_arch}
@@ -58,7 +58,7 @@ from_made objects at core depth section text e h =
     (subst (λ (check : Result (Unit {0}) CoreFault). WalkComesFrom at h.section core depth (section_check h.section at) check (Makes Done None walks)) (sym e)
     (subst (λ (check : Result (Unit {0}) DecodeFault). WalkComesFrom at h.section core depth check (Ok tt) (Makes Done None walks)) (sym passes) comes)))
 
-from_result : (objects : List Object) (at : ℕ) (core : List ℕ) (depth : ℕ) (section text : List ℕ) → core_check core ≡ Ok tt → (result : Result (List Entry) LinkFault)
+from_result : (objects : List Object) (at : ℕ) (core : List ℕ) (depth : ℕ) (section text : List ℕ) → core_check core ≡ Ok tt → (result : Result (List ReadFunction) LinkFault)
     → LinkedComesFrom (Some (arch_of core)) objects at (section_and_walks core depth) result (Makes Done (Some section) text)
     → WalkComesFrom at section core depth (section_check section at) (core_check core) (Makes Done None text)
 from_result objects at core depth section text e (Err fault) h = absurd (subst Refuses (sym h) (linking_refuses fault))

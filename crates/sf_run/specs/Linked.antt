@@ -3,7 +3,7 @@ use Rattle.std.specs.Prelude.{◌≡◌, ℕ, List, Option, None, Result, Ok, Er
 use Rattle.sf_model.specs.declared.machine.Arch.{Arch}
 use Rattle.sf_model.specs.declared.omission.Omitted.{Omitted}
 use Rattle.sf_model.specs.Section.{AreBytes}
-use Rattle.frame_functions.specs.declared.entry.Entry.{Entry}
+use Rattle.frame_functions.specs.declared.read_function.ReadFunction.{ReadFunction}
 use Rattle.sf_asm.specs.declared.fault.GatherFault.TheVariants.{TooManyFunctions, TooManyRows}
 use Rattle.sf_asm.specs.declared.fault.LinkFault.{LinkFault}
 use Rattle.sf_asm.specs.declared.fault.LinkFault.TheVariants.{Gather}
@@ -39,12 +39,12 @@ pub record MakesLinked (before : Option Arch) (objects : List Object) (at : ℕ)
   pub linked : IsLinked before objects at section kept omitted
   pub is : coming ≡ made linked.functions section kept omitted
 
-abbrev pub LinkedComesFrom : (before : Option Arch) → List Object → (at : ℕ) → Makings → Result (List Entry) LinkFault → Coming → Type 0
+abbrev pub LinkedComesFrom : (before : Option Arch) → List Object → (at : ℕ) → Makings → Result (List ReadFunction) LinkFault → Coming → Type 0
 LinkedComesFrom before objects at made (Err fault) coming = coming ≡ coming_of_linking fault
 LinkedComesFrom before objects at made (Ok ordered) coming = MakesLinked before objects at made coming
 
 -- the first fault of linking these inputs for a section at this address, or what is made of the section
 pub record LinkedComes (before : Option Arch) (objects : List Object) (at : ℕ) (made : Makings) (coming : Coming) : Type 0 where
-  pub result : Result (List Entry) LinkFault
+  pub result : Result (List ReadFunction) LinkFault
   pub links : Links before objects at result
   pub comes : LinkedComesFrom before objects at made result coming

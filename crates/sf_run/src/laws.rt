@@ -3,7 +3,7 @@
 ghost use Rattle.std.specs.Prelude.{◌≡◌, ℕ, All, List, [], ◌∷◌, Some, None, Result};
 ghost use Rattle.sf_model.specs.Section.{AreBytes};
 ghost use Rattle.sf_asm.specs.Accepted.{IsAccepted};
-ghost use Rattle.frame_functions.specs.declared.entry.Entry.{Entry};
+ghost use Rattle.frame_functions.specs.declared.read_function.ReadFunction.{ReadFunction};
 ghost use Rattle.sf_asm.specs.declared.fault.LinkFault.{LinkFault};
 ghost use Rattle.sf_asm.specs.Functions.{Object};
 ghost use Rattle.sf_asm.specs.Linking.{Links};
@@ -37,7 +37,7 @@ pub fn a_backtrace_is_the_walk_by_its_section()
 /// States that linking inputs comes to a result: the functions in order, or a fault.
 #[tactic(auto, using(crate::proofs::SomeLinked::links_some))]
 pub fn linking_comes_to_a_result()
-    ensures { (objects : List Object) (at : ℕ) → (result : Result (List Entry) LinkFault) × Links None objects at result }
+    ensures { (objects : List Object) (at : ℕ) → (result : Result (List ReadFunction) LinkFault) × Links None objects at result }
 {}
 
 /// States that a run of `link` refuses nothing exactly if its inputs are within the limits of loading and can be linked.

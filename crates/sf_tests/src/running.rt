@@ -179,13 +179,13 @@ fn push_writes(alloc: Global, worked: &Worked, most: usize, ends: &mut Vec<End>)
             section: None,
         })?;
         let mut written = Vec::new(alloc);
-        for piece in section.chunks(most) {
+        for range in section.chunks(most) {
             ends.push(End {
                 status: Status::Write,
                 line: line.clone()?,
                 section: Some(written.clone()?),
             })?;
-            written.extend_from_slice(piece)?;
+            written.extend_from_slice(range)?;
         }
     }
     Ok(())
@@ -251,7 +251,7 @@ fn expect_writes_of_output(rt: &impl Abort, alloc: Global, most: usize) -> Resul
 {
     for worked in &WORKED {
         let mut written = Vec::new(alloc);
-        for (number, piece) in (1u64..).zip(worked.text.as_bytes().chunks(most)) {
+        for (number, range) in (1u64..).zip(worked.text.as_bytes().chunks(most)) {
             let out = MemSink::new(alloc, most, vec![in alloc; number]?);
             let ended = run_worked(alloc, worked, 64, Vec::new(alloc), out)?;
             let end = End {
@@ -260,7 +260,7 @@ fn expect_writes_of_output(rt: &impl Abort, alloc: Global, most: usize) -> Resul
                 section: section_of(alloc, worked)?,
             };
             expect(rt, worked, number, &ended, &end, &written);
-            written.extend_from_slice(piece)?;
+            written.extend_from_slice(range)?;
         }
     }
     Ok(())

@@ -20,7 +20,7 @@ use Rattle.sf_verify.specs.Agreement.{Agree, RecoverSameFrame, content_said, is_
 use Rattle.sf_verify.specs.Asking.{IsKnownUpTo, IsReady, IsSame, Knows}
 use Rattle.sf_verify.specs.Comparing.{Compares, edge, edge_of, func_says}
 use Rattle.frame_functions.specs.ContentAt.{Answers, with_key}
-use Rattle.sf_verify.proofs.Holding.{plain_says}
+use Rattle.sf_verify.proofs.HolderContent.{plain_says}
 use Rattle.sf_verify.proofs.Rows.{no_row_at_all, no_row_before, row_at_place}
 
 -- ---- asked further on

@@ -14,7 +14,7 @@ use Rattle.sf_model.specs.declared.rows.Row.{Row}
 use Rattle.sf_model.specs.Content.{OffsetsInRange, content_fits}
 use Rattle.sf_model.specs.Lookup.{begins_by, begins_last, contains, found_at, offset_in_block, row_at, row_in_first}
 use Rattle.cfa_machine.specs.FirstFault.{first_fault}
-use Rattle.sf_express.specs.Pieces.{content_in}
+use Rattle.sf_express.specs.ContentRanges.{content_in}
 use Rattle.sf_express.proofs.Writable.{ContentFits, content_of-fits}
 use Rattle.frame_functions.specs.Functions.{holds_address, Function}
 use Rattle.frame_functions.specs.Kept.{says_of}

@@ -18,25 +18,25 @@ use Rattle.sf_model.specs.declared.rows.Row.{Row}
 use Rattle.sf_model.specs.Function.{IsWritable}
 use Rattle.sf_model.specs.Lookup.{contains, row_at}
 use Rattle.sf_express.specs.Offsets.{as_said}
-use Rattle.sf_express.specs.Pieces.{content_in}
+use Rattle.sf_express.specs.ContentRanges.{content_in}
 use Rattle.sf_express.specs.Runs.{Saying, begins, expressed, function_of, omission_of, row_there, rows_among, rows_of}
 use Rattle.sf_express.proofs.Found.{SaysContent, content_said, row_said}
 use Rattle.sf_express.proofs.Runs.{takes}
-use Rattle.frame_functions.specs.Entry.{kept_of}
+use Rattle.frame_functions.specs.ReadFunction.{kept_of}
 use Rattle.frame_functions.specs.Functions.{holds_address, Function}
-use Rattle.frame_functions.specs.Kept.{entry_of, facts_of, is_kept, omitted_functions, says_of}
+use Rattle.frame_functions.specs.Kept.{read_of, facts_of, is_kept, omitted_functions, says_of}
 use Rattle.frame_functions.specs.Order.{are_apart}
-use Rattle.frame_functions.specs.Sources.{function_start}
+use Rattle.frame_functions.specs.Descriptions.{function_start}
 use Rattle.sf_merge.proofs.Apart.{all_back}
 use Rattle.sf_model.proofs.Unions as unions
 use Rattle.sf_model.proofs.Unions.{Member, found, found_alone, in_filter, some_found}
-use Rattle.sf_asm.proofs.Finding.{found_alike}
-use Rattle.sf_asm.proofs.Holding.{IsFine, fine, has_form_if, is_within, one_holds, within}
-use Rattle.sf_asm.proofs.Members.{all_members, in_map, placed}
+use Rattle.sf_asm.proofs.OneFound.{found_alike}
+use Rattle.sf_asm.proofs.OneHolder.{IsFine, fine, has_form_if, is_within, one_holds, within}
+use Rattle.sf_asm.proofs.ListMembers.{all_members, in_map, placed}
 use Rattle.sf_verify.specs.Asking.{AreHolders, IsRowed, RowsBegin, answers_of, by_holder}
 use Rattle.sf_verify.specs.Comparing.{func_says}
 use Rattle.frame_functions.specs.ContentAt.{Answers, dwarf_at, form_content, said_in, with_key}
-use Rattle.sf_verify.proofs.Holding.{plain_says}
+use Rattle.sf_verify.proofs.HolderContent.{plain_says}
 
 -- ---- a kept function
 abbrev pub expressed_of : Function → Func
@@ -99,18 +99,18 @@ some_at : {X : Type 0} (xs : List X) (i : ℕ) → i < length xs → X
 some_at [] i lt = absurd (omega (arith, lt))
 some_at (x ∷ xs) i lt = x
 
-kept_one : (f : Function) (omission : Option Omission) (others : List Function) → omission_of f.arch (facts_of f) (says_of f) ≡ omission → kept_of (map entry_of others) ≡ map expressed_of (filter is_kept others)
-    → kept_of (map entry_of (f ∷ others)) ≡ map expressed_of (filter is_kept (f ∷ others))
+kept_one : (f : Function) (omission : Option Omission) (others : List Function) → omission_of f.arch (facts_of f) (says_of f) ≡ omission → kept_of (map read_of others) ≡ map expressed_of (filter is_kept others)
+    → kept_of (map read_of (f ∷ others)) ≡ map expressed_of (filter is_kept (f ∷ others))
 unfolding function_of
 kept_one f None others e same = rw e (ap (λ (fs : List Func). expressed_of f ∷ fs) same)
 kept_one f (Some omission) others e same = rw e same
 
-pub kept_are : (fs : List Function) → kept_of (map entry_of fs) ≡ map expressed_of (filter is_kept fs)
+pub kept_are : (fs : List Function) → kept_of (map read_of fs) ≡ map expressed_of (filter is_kept fs)
 kept_are [] = refl
 kept_are (f ∷ fs) = kept_one f (omission_of f.arch (facts_of f) (says_of f)) fs refl (kept_are fs)
 
 -- ---- at an address
-module _ (functions sorted : List Function) (moved : IsPermutation functions sorted) (apart : are_apart 0 (map entry_of sorted) ≡ true) where
+module _ (functions sorted : List Function) (moved : IsPermutation functions sorted) (apart : are_apart 0 (map read_of sorted) ≡ true) where
   there : (f : Function) (pc : ℕ) → Member sorted f → f.start ≤ pc → pc < f.start + f.size → dwarf_at functions pc ≡ said_in pc f
   unfolding dwarf_at
   there f pc m low high =
@@ -140,16 +140,16 @@ module _ (functions sorted : List Function) (moved : IsPermutation functions sor
       let good = fine f (passes k d lt) in
       record { rowed_is = rowed arch f good (each k d lt); says = λ pc low high. there f pc (members k d lt) low high ∙ kept_says f pc good low high })
 
-  holders_by : (arch : Arch) (kept : List Func) (sources : List Function) → kept ≡ map expressed_of (filter is_kept sorted) → sources ≡ omitted_functions sorted → IsNonDecreasingBy function_start sorted
-      → All (IsWritable arch) kept → All (λ (f : Function). f.arch ≡ arch) sorted → AreHolders arch (dwarf_at functions) kept sources
-  holders_by arch kept sources kept_is sources_are rising writable machine = record {
+  holders_by : (arch : Arch) (kept : List Func) (descriptions : List Function) → kept ≡ map expressed_of (filter is_kept sorted) → descriptions ≡ omitted_functions sorted → IsNonDecreasingBy function_start sorted
+      → All (IsWritable arch) kept → All (λ (f : Function). f.arch ≡ arch) sorted → AreHolders arch (dwarf_at functions) kept descriptions
+  holders_by arch kept descriptions kept_is descriptions_are rising writable machine = record {
     kept_says = λ i d lt. (holds i d lt).says;
-    omitted_says = λ i d lt pc low high. there (get_or sources i d) pc (source_member i d lt) low high;
+    omitted_says = λ i d lt pc low high. there (get_or descriptions i d) pc (description_member i d lt) low high;
     none_says = λ pc no_kept no_omitted. nowhere pc (λ f m low high. by_kept pc f m low high no_kept no_omitted (is_kept f) refl);
     kept_rowed = λ i d lt. (holds i d lt).rowed_is;
     kept_rise = λ i j d le lt. rise_mapped i j d le lt;
-    omitted_rise = λ i j d le lt. subst (IsNonDecreasingBy function_start) (sym sources_are) (IsNonDecreasingBy-filter function_start (λ (f : Function). not (is_kept f)) sorted rising) i j d le lt;
-    omitted_here = subst (All (λ (f : Function). f.arch ≡ arch)) (sym sources_are) (All-filter (λ (f : Function). not (is_kept f)) (λ (f : Function). f.arch ≡ arch) sorted machine);
+    omitted_rise = λ i j d le lt. subst (IsNonDecreasingBy function_start) (sym descriptions_are) (IsNonDecreasingBy-filter function_start (λ (f : Function). not (is_kept f)) sorted rising) i j d le lt;
+    omitted_here = subst (All (λ (f : Function). f.arch ≡ arch)) (sym descriptions_are) (All-filter (λ (f : Function). not (is_kept f)) (λ (f : Function). f.arch ≡ arch) sorted machine);
   }
     where
       holds : All (KeptHolds arch) kept
@@ -167,42 +167,42 @@ module _ (functions sorted : List Function) (moved : IsPermutation functions sor
           let next : get_or kept j d ≡ expressed_of (get_or (filter is_kept sorted) j e) = ap (λ (ks : List Func). get_or ks j d) kept_is ∙ mapped expressed_of (filter is_kept sorted) j d e lt' in
           subst (λ (k : Func). k.start ≤ (get_or kept j d).start) (sym here) (subst (λ (k : Func). (get_or (filter is_kept sorted) i e).start ≤ k.start) (sym next) starts)
 
-      source_member : (i : ℕ) (d : Function) → i < length sources → Member sorted (get_or sources i d)
-      source_member i d lt = subst (All (Member sorted)) (sym sources_are) (All-filter (λ (f : Function). not (is_kept f)) (Member sorted) sorted (all_members sorted)) i d lt
+      description_member : (i : ℕ) (d : Function) → i < length descriptions → Member sorted (get_or descriptions i d)
+      description_member i d lt = subst (All (Member sorted)) (sym descriptions_are) (All-filter (λ (f : Function). not (is_kept f)) (Member sorted) sorted (all_members sorted)) i d lt
 
       by_kept : (pc : ℕ) (f : Function) → Member sorted f → f.start ≤ pc → pc < f.start + f.size
           → ((i : ℕ) (d : Func) → i < length kept → (get_or kept i d).start ≤ pc → pc < (get_or kept i d).start + (get_or kept i d).size → ⊥)
-          → ((i : ℕ) (d : Function) → i < length sources → (get_or sources i d).start ≤ pc → pc < (get_or sources i d).start + (get_or sources i d).size → ⊥)
+          → ((i : ℕ) (d : Function) → i < length descriptions → (get_or descriptions i d).start ≤ pc → pc < (get_or descriptions i d).start + (get_or descriptions i d).size → ⊥)
           → (b : Bool) → is_kept f ≡ b → ⊥
       by_kept pc f m low high no_kept no_omitted true t =
           let p = placed kept (expressed_of f) (subst (λ (ks : List Func). Member ks (expressed_of f)) (sym kept_is) (in_map expressed_of (filter is_kept sorted) f (in_filter is_kept sorted f t m))) in
           let is = p.is (expressed_of f) in
           no_kept p.place (expressed_of f) p.within (subst (λ (k : Func). k.start ≤ pc) (sym is) low) (subst (λ (k : Func). pc < k.start + k.size) (sym is) high)
       by_kept pc f m low high no_kept no_omitted false t =
-          let p = placed sources f (subst (λ (fs : List Function). Member fs f) (sym sources_are) (in_filter (λ (g : Function). not (is_kept g)) sorted f (ap not t) m)) in
+          let p = placed descriptions f (subst (λ (fs : List Function). Member fs f) (sym descriptions_are) (in_filter (λ (g : Function). not (is_kept g)) sorted f (ap not t) m)) in
           let is = p.is f in
           no_omitted p.place f p.within (subst (λ (g : Function). g.start ≤ pc) (sym is) low) (subst (λ (g : Function). pc < g.start + g.size) (sym is) high)
 
-pub holders : (arch : Arch) (functions sorted : List Function) (kept : List Func) (sources : List Function) → IsPermutation functions sorted → are_apart 0 (map entry_of sorted) ≡ true → kept ≡ kept_of (map entry_of sorted) → sources ≡ omitted_functions sorted
-    → IsNonDecreasingBy function_start sorted → All (IsWritable arch) kept → All (λ (f : Function). f.arch ≡ arch) functions → AreHolders arch (dwarf_at functions) kept sources
-holders arch functions sorted kept sources moved apart kept_is sources_are rising writable machine =
-    holders_by functions sorted moved apart arch kept sources (kept_is ∙ kept_are sorted) sources_are rising writable (All-permutation (λ (f : Function). f.arch ≡ arch) functions sorted moved machine)
+pub holders : (arch : Arch) (functions sorted : List Function) (kept : List Func) (descriptions : List Function) → IsPermutation functions sorted → are_apart 0 (map read_of sorted) ≡ true → kept ≡ kept_of (map read_of sorted) → descriptions ≡ omitted_functions sorted
+    → IsNonDecreasingBy function_start sorted → All (IsWritable arch) kept → All (λ (f : Function). f.arch ≡ arch) functions → AreHolders arch (dwarf_at functions) kept descriptions
+holders arch functions sorted kept descriptions moved apart kept_is descriptions_are rising writable machine =
+    holders_by functions sorted moved apart arch kept descriptions (kept_is ∙ kept_are sorted) descriptions_are rising writable (All-permutation (λ (f : Function). f.arch ≡ arch) functions sorted moved machine)
 
 -- ---- both lists say the same
-module _ (arch : Arch) (answers : Answers) (kept : List Func) (sources : List Function) (h : AreHolders arch answers kept sources) where
-  by_lent : (pc : ℕ) (o : Option Function) → find (contains pc) kept ≡ None → find (holds_address pc) sources ≡ o → by_holder pc None o ≡ answers pc
+module _ (arch : Arch) (answers : Answers) (kept : List Func) (descriptions : List Function) (h : AreHolders arch answers kept descriptions) where
+  by_lent : (pc : ℕ) (o : Option Function) → find (contains pc) kept ≡ None → find (holds_address pc) descriptions ≡ o → by_holder pc None o ≡ answers pc
   by_lent pc None none e = sym (h.none_says pc
       (λ i d lt low high. some_found (contains pc) kept (get_or kept i d) (rw (le-leb (get_or kept i d).start pc low, lt-ltb pc ((get_or kept i d).start + (get_or kept i d).size) high) refl) (all_members kept i d lt) none)
-      (λ i d lt low high. some_found (holds_address pc) sources (get_or sources i d) (is_within pc (get_or sources i d) low high) (all_members sources i d lt) e))
+      (λ i d lt low high. some_found (holds_address pc) descriptions (get_or descriptions i d) (is_within pc (get_or descriptions i d) low high) (all_members descriptions i d lt) e))
   by_lent pc (Some f) none e =
-      let t = found (holds_address pc) sources f e in
+      let t = found (holds_address pc) descriptions f e in
       let w = within pc f t.passes in
-      let p = placed sources f t.within in
+      let p = placed descriptions f t.within in
       let is = p.is f in
       sym (h.omitted_says p.place f p.within pc (subst (λ (g : Function). g.start ≤ pc) (sym is) w.from) (subst (λ (g : Function). pc < g.start + g.size) (sym is) w.to) ∙ ap (said_in pc) is)
 
-  by_found : (pc : ℕ) (o : Option Func) → find (contains pc) kept ≡ o → by_holder pc o (find (holds_address pc) sources) ≡ answers pc
-  by_found pc None e = by_lent pc (find (holds_address pc) sources) e refl
+  by_found : (pc : ℕ) (o : Option Func) → find (contains pc) kept ≡ o → by_holder pc o (find (holds_address pc) descriptions) ≡ answers pc
+  by_found pc None e = by_lent pc (find (holds_address pc) descriptions) e refl
   by_found pc (Some k) e =
       let t = found (contains pc) kept k e in
       let has = unions.within pc k t.passes in
@@ -210,11 +210,11 @@ module _ (arch : Arch) (answers : Answers) (kept : List Func) (sources : List Fu
       let is = p.is k in
       sym (h.kept_says p.place k p.within pc (subst (λ (g : Func). g.start ≤ pc) (sym is) has.from) (subst (λ (g : Func). pc < g.start + g.size) (sym is) has.to) ∙ ap (λ (g : Func). func_says g pc) is)
 
-  pub same_answers : (pc : ℕ) → answers_of kept sources pc ≡ answers pc
+  pub same_answers : (pc : ℕ) → answers_of kept descriptions pc ≡ answers pc
   unfolding answers_of
   same_answers pc = by_found pc (find (contains pc) kept) refl
 
-  pub holders_of_both : AreHolders arch (answers_of kept sources) kept sources
+  pub holders_of_both : AreHolders arch (answers_of kept descriptions) kept descriptions
   holders_of_both = record {
     kept_says = λ i d lt pc low high. same_answers pc ∙ h.kept_says i d lt pc low high;
     omitted_says = λ i d lt pc low high. same_answers pc ∙ h.omitted_says i d lt pc low high;

@@ -1,7 +1,7 @@
-pub mod Test
+pub mod AlikeContents
 pub mod KeptAt
 pub mod Rows
-pub mod Holding
+pub mod HolderContent
 pub mod Compared
 pub mod Swept
 pub mod Gathered

@@ -9,12 +9,12 @@ use Rattle.sf_model.specs.Table.{Table}
 use Rattle.sf_functions.proofs.ByStart.{one_order as one_section_order}
 use Rattle.sf_merge.specs.declared.located.Located.{Located}
 use Rattle.sf_merge.specs.Located.{located_start}
-use Rattle.frame_functions.specs.declared.entry.Entry.{Entry}
+use Rattle.frame_functions.specs.declared.read_function.ReadFunction.{ReadFunction}
 use Rattle.sf_asm.specs.declared.fault.GatherFault.{GatherFault}
 use Rattle.frame_functions.specs.Functions.{Function}
 use Rattle.sf_asm.specs.Functions.{Object}
 use Rattle.sf_asm.specs.Inputs.{all_functions}
-use Rattle.frame_functions.specs.Kept.{entry_of}
+use Rattle.frame_functions.specs.Kept.{read_of}
 use Rattle.sf_asm.specs.Linking.{GathersFrom, functions_fault, unless_fault}
 use Rattle.sf_asm.proofs.Described.{described, from_gathers}
 use Rattle.sf_asm.proofs.OneOrder.{one_order}
@@ -25,9 +25,9 @@ use Rattle.sf_verify.specs.SectionContent.{section_at}
 use Rattle.sf_verify.specs.Verifying.{Verifies, VerdictUnless, first_verify_fault, section_fault, sized_in}
 
 -- ---- the inputs
-gathered_one : (given : Result (List Function) GatherFault) (r r' : Result (List Entry) GatherFault) → GathersFrom given r → GathersFrom given r' → r ≡ r'
+gathered_one : (given : Result (List Function) GatherFault) (r r' : Result (List ReadFunction) GatherFault) → GathersFrom given r → GathersFrom given r' → r ≡ r'
 gathered_one (Ok functions) r r' (es, order, is) (fs, order', is') =
-    is ∙ ap (λ (xs : List Entry). unless_fault (functions_fault xs) xs) (one_order (map entry_of functions) es fs order order') ∙ sym is'
+    is ∙ ap (λ (xs : List ReadFunction). unless_fault (functions_fault xs) xs) (one_order (map read_of functions) es fs order order') ∙ sym is'
 gathered_one (Err fault) r r' is is' = is ∙ sym is'
 
 -- ---- the verdict
@@ -68,5 +68,5 @@ pub one_result : (bytes : List ℕ) (table : Table) (objects : List Object) (r r
 one_result bytes table objects r r' (inputs, gathers, ordered, order, p) (inputs', gathers', ordered', order', q) =
     let same = gathered_one (all_functions (Some table.arch) objects) inputs inputs' (from_gathers (Some table.arch) objects inputs gathers) (from_gathers (Some table.arch) objects inputs' gathers') in
     let one = one_section_order located_start (sized_in table) ordered ordered' order order' in
-    let moved = subst (λ (i : Result (List Entry) GatherFault). VerdictUnless (first_verify_fault i (section_fault bytes ordered)) table objects r) same p in
+    let moved = subst (λ (i : Result (List ReadFunction) GatherFault). VerdictUnless (first_verify_fault i (section_fault bytes ordered)) table objects r) same p in
     unless_one (first_verify_fault inputs' (section_fault bytes ordered')) table objects r r' (subst (λ (ls : List Located). VerdictUnless (first_verify_fault inputs' (section_fault bytes ls)) table objects r) one moved) q

@@ -1,4 +1,4 @@
--- Rows by their places, and as pieces.
+-- Rows by their places, and as ranges.
 use Rattle.std.specs.Prelude.{IsTrue, nat_le}
 use Rattle.std.specs.List.{All}
 use Rattle.std.specs.Option.{option_map}
@@ -11,8 +11,8 @@ use Rattle.sf_model.specs.Content.{content_fits}
 use Rattle.sf_model.specs.Function.{RowsRise}
 use Rattle.sf_model.specs.Lookup.{row_at}
 use Rattle.sf_lookup.proofs.Rows.{Rise, latest, latest_begun, latest_holds, latest_stops, rises, starts_from}
-use Rattle.sf_express.specs.declared.pieces.Piece.{Piece}
-use Rattle.sf_express.specs.Pieces.{ArePieces, PiecesBegin, PiecesRise, piece_of_row, said_by}
+use Rattle.sf_express.specs.declared.content_ranges.ContentRange.{ContentRange}
+use Rattle.sf_express.specs.ContentRanges.{AreRanges, RangesBegin, RangesRise, range_of_row, said_by}
 use Rattle.frame_functions.specs.ContentAt.{AllFit, IfFits}
 use Rattle.sf_verify.specs.Asking.{RowsBegin}
 
@@ -48,43 +48,43 @@ pub no_row_at_all : (o : ℕ) → row_at o [] ≡ None
 unfolding row_at
 no_row_at_all o = refl
 
--- ---- as pieces
-abbrev pub as_pieces : List Row → List Piece
-as_pieces rows = map piece_of_row rows
+-- ---- as ranges
+abbrev pub as_ranges : List Row → List ContentRange
+as_ranges rows = map range_of_row rows
 
 abbrev pub content_of_row : Option Row → Option (Option Content)
 content_of_row found = option_map (λ (r : Row). Some r.content) found
 
-said_latest : (o : ℕ) (found : Option Row) (rows : List Row) → said_by o (content_of_row found) (as_pieces rows) ≡ content_of_row (latest o found rows)
+said_latest : (o : ℕ) (found : Option Row) (rows : List Row) → said_by o (content_of_row found) (as_ranges rows) ≡ content_of_row (latest o found rows)
 said_latest o found [] = refl
 said_latest o found (r ∷ rows) = at_test (nat_le r.start o) refl (said_latest o (Some r) rows)
   where
-    at_test : (b : Bool) → nat_le r.start o ≡ b → said_by o (Some (Some r.content)) (as_pieces rows) ≡ content_of_row (latest o (Some r) rows)
-        → said_by o (content_of_row found) (piece_of_row r ∷ as_pieces rows) ≡ content_of_row (latest o found (r ∷ rows))
+    at_test : (b : Bool) → nat_le r.start o ≡ b → said_by o (Some (Some r.content)) (as_ranges rows) ≡ content_of_row (latest o (Some r) rows)
+        → said_by o (content_of_row found) (range_of_row r ∷ as_ranges rows) ≡ content_of_row (latest o found (r ∷ rows))
     at_test true e later = rw e later
     at_test false e later = rw e refl
 
-pub pieces_as_rows : (o : ℕ) (rows : List Row) → RowsRise rows → said_by o None (as_pieces rows) ≡ content_of_row (row_at o rows)
-pieces_as_rows o rows h = said_latest o None rows ∙ ap content_of_row (latest_holds o rows h)
+pub ranges_as_rows : (o : ℕ) (rows : List Row) → RowsRise rows → said_by o None (as_ranges rows) ≡ content_of_row (row_at o rows)
+ranges_as_rows o rows h = said_latest o None rows ∙ ap content_of_row (latest_holds o rows h)
 
-as_pieces_rise : (least : ℕ) (rows : List Row) → Rise least rows → PiecesRise least (as_pieces rows)
-as_pieces_rise least [] h = tt
-as_pieces_rise least (r ∷ rows) h = (h.0, as_pieces_rise (r.start + 1) rows h.1)
+as_ranges_rise : (least : ℕ) (rows : List Row) → Rise least rows → RangesRise least (as_ranges rows)
+as_ranges_rise least [] h = tt
+as_ranges_rise least (r ∷ rows) h = (h.0, as_ranges_rise (r.start + 1) rows h.1)
 
-as_pieces_begin : (rows : List Row) → RowsBegin rows → PiecesBegin (as_pieces rows)
-as_pieces_begin [] h = absurd h
-as_pieces_begin (r ∷ rows) h = h
+as_ranges_begin : (rows : List Row) → RowsBegin rows → RangesBegin (as_ranges rows)
+as_ranges_begin [] h = absurd h
+as_ranges_begin (r ∷ rows) h = h
 
-as_pieces_below : (size : ℕ) (rows : List Row) → All (λ (r : Row). r.start < size) rows → All (λ (p : Piece). p.start < size) (as_pieces rows)
-as_pieces_below size [] h = All-nil (λ (p : Piece). p.start < size)
-as_pieces_below size (r ∷ rows) h =
-    All-cons (λ (p : Piece). p.start < size) (piece_of_row r) (as_pieces rows) (All-head (λ (r : Row). r.start < size) r rows h) (as_pieces_below size rows (All-tail (λ (r : Row). r.start < size) r rows h))
+as_ranges_below : (size : ℕ) (rows : List Row) → All (λ (r : Row). r.start < size) rows → All (λ (p : ContentRange). p.start < size) (as_ranges rows)
+as_ranges_below size [] h = All-nil (λ (p : ContentRange). p.start < size)
+as_ranges_below size (r ∷ rows) h =
+    All-cons (λ (p : ContentRange). p.start < size) (range_of_row r) (as_ranges rows) (All-head (λ (r : Row). r.start < size) r rows h) (as_ranges_below size rows (All-tail (λ (r : Row). r.start < size) r rows h))
 
-pub as_pieces_are : (size : ℕ) (rows : List Row) → RowsBegin rows → RowsRise rows → All (λ (r : Row). r.start < size) rows → ArePieces size (as_pieces rows)
-as_pieces_are size rows begin rise below = record { first = as_pieces_begin rows begin; rise = as_pieces_rise 0 rows (rises rows rise); below = as_pieces_below size rows below }
+pub as_ranges_are : (size : ℕ) (rows : List Row) → RowsBegin rows → RowsRise rows → All (λ (r : Row). r.start < size) rows → AreRanges size (as_ranges rows)
+as_ranges_are size rows begin rise below = record { first = as_ranges_begin rows begin; rise = as_ranges_rise 0 rows (rises rows rise); below = as_ranges_below size rows below }
 
-pub as_pieces_fit : (arch : Arch) (rows : List Row) → All (λ (r : Row). IsTrue (content_fits arch r.content)) rows → AllFit arch (as_pieces rows)
-as_pieces_fit arch [] h = All-nil (λ (p : Piece). IfFits arch p.content)
-as_pieces_fit arch (r ∷ rows) h =
+pub as_ranges_fit : (arch : Arch) (rows : List Row) → All (λ (r : Row). IsTrue (content_fits arch r.content)) rows → AllFit arch (as_ranges rows)
+as_ranges_fit arch [] h = All-nil (λ (p : ContentRange). IfFits arch p.content)
+as_ranges_fit arch (r ∷ rows) h =
     let P : Row → Type 0 = λ (r : Row). IsTrue (content_fits arch r.content) in
-    All-cons (λ (p : Piece). IfFits arch p.content) (piece_of_row r) (as_pieces rows) (All-head P r rows h) (as_pieces_fit arch rows (All-tail P r rows h))
+    All-cons (λ (p : ContentRange). IfFits arch p.content) (range_of_row r) (as_ranges rows) (All-head P r rows h) (as_ranges_fit arch rows (All-tail P r rows h))

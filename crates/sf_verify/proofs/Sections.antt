@@ -20,13 +20,13 @@ use Rattle.sf_merge.proofs.Apart.{none_share}
 use Rattle.sf_merge.proofs.OneSection as section
 use Rattle.sf_merge.proofs.OneSection.{located_functions as located_are, ordered_sound}
 use Rattle.sf_model.proofs.Unions.{IsWithin, OnePasses, within}
-use Rattle.sf_asm.proofs.Finding.{found_alike}
+use Rattle.sf_asm.proofs.OneFound.{found_alike}
 use Rattle.sf_verify.specs.declared.fault.VerifyFault.TheVariants.{Overlap}
 use Rattle.sf_verify.specs.Comparing.{AreComparable}
 use Rattle.sf_verify.specs.Counting.{StartsRise}
 use Rattle.sf_verify.specs.SectionContent.{by_row, section_at}
 use Rattle.sf_verify.specs.Verifying.{section_fault, sized_in}
-use Rattle.sf_asm.proofs.Members.{placed}
+use Rattle.sf_asm.proofs.ListMembers.{placed}
 use Rattle.sf_verify.proofs.Gathered.{mapped}
 
 -- ---- they have bytes

@@ -14,13 +14,13 @@ use Rattle.sf_model.specs.Lookup.{contains, found_at, row_in_first}
 use Rattle.sf_model.specs.Table.{Table}
 use Rattle.sf_model.proofs.Unions.{within}
 use Rattle.sf_merge.proofs.SomeResult.{some_order}
-use Rattle.frame_functions.specs.declared.entry.Entry.{Entry}
+use Rattle.frame_functions.specs.declared.read_function.ReadFunction.{ReadFunction}
 use Rattle.sf_asm.specs.declared.fault.GatherFault.{GatherFault}
 use Rattle.frame_functions.specs.declared.keyed_content.KeyedContent.{KeyedContent}
 use Rattle.frame_functions.specs.Functions.{Function}
 use Rattle.sf_asm.specs.Functions.{Object, functions_of, machine_of}
 use Rattle.sf_asm.specs.Inputs.{all_functions}
-use Rattle.frame_functions.specs.Kept.{entry_of, kept_functions}
+use Rattle.frame_functions.specs.Kept.{read_of, kept_functions}
 use Rattle.frame_functions.specs.Order.{start_of}
 use Rattle.sf_asm.specs.Linking.{Gathers, GathersFrom, functions_fault, unless_fault}
 use Rattle.frame_functions.specs.ContentAt.{Answers, dwarf_at}
@@ -32,7 +32,7 @@ use Rattle.sf_verify.specs.declared.fault.VerifyFault.{VerifyFault}
 use Rattle.sf_verify.specs.Agreement.{Agree, DifferFirst, IsFitting, IsVerdict, agree, content_said, is_missing, is_plain}
 use Rattle.sf_verify.specs.SectionContent.{by_row, section_at}
 use Rattle.sf_verify.specs.Verifying.{Verifies, VerdictUnless, first_verify_fault, refused, section_fault, sized_in}
-use Rattle.sf_verify.proofs.Test.{alike, says_agree}
+use Rattle.sf_verify.proofs.AlikeContents.{alike, says_agree}
 
 -- ---- at one address they agree or don't
 abbrev Decides : (section dwarf : Option KeyedContent) → Type 0
@@ -114,24 +114,24 @@ some_verdict arch section functions f g =
     by_difference section functions (least_below (section_at section) (dwarf_at functions) (λ pc. decides arch (section_at section pc) (dwarf_at functions pc) (f pc) (g pc)) (all_ends section))
 
 -- ---- the result
-gathered_from : (given : Result (List Function) GatherFault) → (inputs : Result (List Entry) GatherFault) × GathersFrom given inputs
+gathered_from : (given : Result (List Function) GatherFault) → (inputs : Result (List ReadFunction) GatherFault) × GathersFrom given inputs
 gathered_from (Err fault) = (Err fault, refl)
 gathered_from (Ok functions) =
-    let all = map entry_of functions in
+    let all = map read_of functions in
     let ordered = by_key start_of all in (
       unless_fault (functions_fault ordered) ordered,
       (ordered, in_order start_of all, refl),
     )
 
 -- gathering inputs comes to a result
-some_gathering : (before : Option Arch) (objects : List Object) → (inputs : Result (List Entry) GatherFault) × Gathers before objects inputs
+some_gathering : (before : Option Arch) (objects : List Object) → (inputs : Result (List ReadFunction) GatherFault) × Gathers before objects inputs
 some_gathering before objects = let some = gathered_from (all_functions before objects) in (some.0, to_gathers before objects some.0 some.1)
 
 -- what the functions of inputs of a machine say fits it
 abbrev pub InputsFit : Arch → List Object → Type 0
 InputsFit arch objects = (functions : List Function) → functions_of 1 objects ≡ Ok functions → All (λ (machine : Arch). machine ≡ arch) (map machine_of objects) → (pc : ℕ) → IfSome (dwarf_at functions pc) (IsFitting arch)
 
-some_unless : (table : Table) (objects : List Object) (inputs : Result (List Entry) GatherFault) (section : Option VerifyFault) → Gathers (Some table.arch) objects inputs → ((pc : ℕ) → IfSome (section_at table.functions pc) (IsFitting table.arch)) → InputsFit table.arch objects
+some_unless : (table : Table) (objects : List Object) (inputs : Result (List ReadFunction) GatherFault) (section : Option VerifyFault) → Gathers (Some table.arch) objects inputs → ((pc : ℕ) → IfSome (section_at table.functions pc) (IsFitting table.arch)) → InputsFit table.arch objects
     → (result : Result Verdict VerifyFault) × VerdictUnless (first_verify_fault inputs section) table objects result
 some_unless table objects (Err fault) section gathers f g = (Err (refused section fault), refl)
 some_unless table objects (Ok entries) (Some fault) gathers f g = (Err fault, refl)

@@ -23,10 +23,10 @@ use Rattle.sf_asm.specs.Answers.{IsFirstGathered}
 use Rattle.frame_functions.specs.Functions.{Function}
 use Rattle.sf_asm.specs.Functions.{Object, machine_of}
 use Rattle.sf_asm.specs.Inputs.{HaveMachine}
-use Rattle.frame_functions.specs.Kept.{entry_of, is_kept}
-use Rattle.sf_asm.specs.Sources.{AreWithSources}
+use Rattle.frame_functions.specs.Kept.{read_of, is_kept}
+use Rattle.sf_asm.specs.Descriptions.{AreWithDescriptions}
 use Rattle.sf_asm.proofs.Described.{described}
-use Rattle.sf_asm.proofs.Holding.{gathered_apart, kept_size}
+use Rattle.sf_asm.proofs.OneHolder.{gathered_apart, kept_size}
 use Rattle.sf_asm.proofs.OneMachine.{machine_of_functions}
 use Rattle.sf_verify.specs.declared.fault.VerifyFault.{VerifyFault}
 use Rattle.sf_verify.specs.declared.fault.VerifyFault.TheVariants as verify
@@ -85,12 +85,12 @@ kept_rise arch kept h i j d lt within =
         subst (λ (n : ℕ). (get_or kept i d).start < (get_or kept n d).start) (sym e) (omega (arith, ends, some))
 
 -- ---- gathered functions
-pub have_holders : (before : Arch) (objects : List Object) (arch : Arch) (kept : List Func) (omitted : List Omitted) (sources : List Function) (h : AreWithSources (Some before) objects arch kept omitted sources) → HaveMachine (Some before) objects arch
-    → AreHolders arch (dwarf_at h.functions) kept sources
-have_holders before objects arch kept omitted sources h machine =
-    let apart = gathered_apart (Some before) objects (map entry_of h.sorted) h.is in
+pub have_holders : (before : Arch) (objects : List Object) (arch : Arch) (kept : List Func) (omitted : List Omitted) (descriptions : List Function) (h : AreWithDescriptions (Some before) objects arch kept omitted descriptions) → HaveMachine (Some before) objects arch
+    → AreHolders arch (dwarf_at h.functions) kept descriptions
+have_holders before objects arch kept omitted descriptions h machine =
+    let apart = gathered_apart (Some before) objects (map read_of h.sorted) h.is in
     let machines = machine_of_functions (Some before) objects arch h.functions (described 1 objects (Ok h.functions) h.are) machine in
-    holders arch h.functions h.sorted kept sources h.by_start.moved apart h.kept_are h.sources_are h.by_start.rising h.writable.each machines
+    holders arch h.functions h.sorted kept descriptions h.by_start.moved apart h.kept_are h.descriptions_are h.by_start.rising h.writable.each machines
 
 -- ---- the results
 pub same_machine : (before arch : Arch) (objects : List Object) → HaveMachine (Some before) objects arch → before ≡ arch
@@ -103,16 +103,16 @@ covered_size f g kept some e =
     let same = eqb-true g.size f.size two.1 in
     omega (arith, same, some)
 
-pub is_verified : (view : View) (objects : List Object) (arch : Arch) (kept : List Func) (omitted : List Omitted) (sources : List Function) (ordered : List Located) (verdict : Verdict)
-    → (h : AreWithSources (Some (table_of view).arch) objects arch kept omitted sources) → HaveMachine (Some (table_of view).arch) objects arch → IsInOrder located_start (sized_in (table_of view)) ordered → section_fault (section_bytes view) ordered ≡ None
-    → IsVerdictBy (table_of view).functions (located_functions ordered) kept (answers_of kept sources) verdict → Verifies (section_bytes view) (table_of view) objects (Ok verdict)
-is_verified view objects arch kept omitted sources ordered verdict h machine order none is =
+pub is_verified : (view : View) (objects : List Object) (arch : Arch) (kept : List Func) (omitted : List Omitted) (descriptions : List Function) (ordered : List Located) (verdict : Verdict)
+    → (h : AreWithDescriptions (Some (table_of view).arch) objects arch kept omitted descriptions) → HaveMachine (Some (table_of view).arch) objects arch → IsInOrder located_start (sized_in (table_of view)) ordered → section_fault (section_bytes view) ordered ≡ None
+    → IsVerdictBy (table_of view).functions (located_functions ordered) kept (answers_of kept descriptions) verdict → Verifies (section_bytes view) (table_of view) objects (Ok verdict)
+is_verified view objects arch kept omitted descriptions ordered verdict h machine order none is =
     let table = table_of view in
-    let hold = have_holders table.arch objects arch kept omitted sources h machine in
-    let verdict' = verdict_is table.functions (located_functions ordered) kept h.functions h.sorted (answers_of kept sources) verdict
-    (section_says (section_bytes view) table ordered order none) (same_answers arch (dwarf_at h.functions) kept sources hold) (h.kept_are ∙ kept_are h.sorted) h.by_start.moved
+    let hold = have_holders table.arch objects arch kept omitted descriptions h machine in
+    let verdict' = verdict_is table.functions (located_functions ordered) kept h.functions h.sorted (answers_of kept descriptions) verdict
+    (section_says (section_bytes view) table ordered order none) (same_answers arch (dwarf_at h.functions) kept descriptions hold) (h.kept_are ∙ kept_are h.sorted) h.by_start.moved
     (λ f k. any_sized (represents_kept (expressed_of f)) table ordered order (λ g e. covered_size f g k (kept_size f k) e)) is in
-    (Ok (map entry_of h.sorted), h.is, ordered, order, subst (λ (fault : Option VerifyFault). VerdictUnless fault table objects (Ok verdict)) (sym none) (h.functions, h.are, verdict, verdict', refl))
+    (Ok (map read_of h.sorted), h.is, ordered, order, subst (λ (fault : Option VerifyFault). VerdictUnless fault table objects (Ok verdict)) (sym none) (h.functions, h.are, verdict, verdict', refl))
 
 pub is_refused : (view : View) (objects : List Object) (ordered : List Located) (fault : GatherFault) → IsInOrder located_start (sized_in (table_of view)) ordered → IsFirstGathered (Some (table_of view).arch) objects fault
     → IsFirstVerifyFault (section_bytes view) (table_of view) objects (refused (section_fault (section_bytes view) ordered) fault)
@@ -123,25 +123,25 @@ is_refused view objects ordered fault order (inl none) = inl (subst (λ (f : Gat
     no_memory (Some fault) = refl
 is_refused view objects ordered fault order (inr is) = inr (Err fault, is, ordered, order, refl)
 
-pub is_shared : (view : View) (objects : List Object) (arch : Arch) (kept : List Func) (omitted : List Omitted) (sources : List Function) (ordered : List Located) (fault : VerifyFault) → AreWithSources (Some (table_of view).arch) objects arch kept omitted sources → IsInOrder located_start (sized_in (table_of view)) ordered
+pub is_shared : (view : View) (objects : List Object) (arch : Arch) (kept : List Func) (omitted : List Omitted) (descriptions : List Function) (ordered : List Located) (fault : VerifyFault) → AreWithDescriptions (Some (table_of view).arch) objects arch kept omitted descriptions → IsInOrder located_start (sized_in (table_of view)) ordered
     → section_fault (section_bytes view) ordered ≡ Some fault → IsFirstVerifyFault (section_bytes view) (table_of view) objects fault
-is_shared view objects arch kept omitted sources ordered fault h order is =
-    inr (Ok (map entry_of h.sorted), h.is, ordered, order, subst (λ (f : Option VerifyFault). VerdictUnless f (table_of view) objects (Err fault)) (sym is) refl)
+is_shared view objects arch kept omitted descriptions ordered fault h order is =
+    inr (Ok (map read_of h.sorted), h.is, ordered, order, subst (λ (f : Option VerifyFault). VerdictUnless f (table_of view) objects (Err fault)) (sym is) refl)
 
 -- ---- what the comparison asks for
-pub record ArePrepared (view : View) (arch : Arch) (kept : List Func) (sources : List Function) (ordered : List Located) : Type 0 where
+pub record ArePrepared (view : View) (arch : Arch) (kept : List Func) (descriptions : List Function) (ordered : List Located) : Type 0 where
   pub machine : arch ≡ (table_of view).arch
   pub order : IsInOrder located_start (sized_in (table_of view)) ordered
   pub none : section_fault (section_bytes view) ordered ≡ None
   pub comparable : AreComparable arch ordered
   pub rise : StartsRise ordered
-  pub holders : AreHolders arch (answers_of kept sources) kept sources
+  pub holders : AreHolders arch (answers_of kept descriptions) kept descriptions
   pub kept_rises : KeptRise kept
 
-pub prepared : (view : View) (objects : List Object) (before arch : Arch) (kept : List Func) (omitted : List Omitted) (sources : List Function) (ordered asked : List Located) (shared : Option VerifyFault) → before ≡ (table_of view).arch
-    → AreWithSources (Some before) objects arch kept omitted sources → HaveMachine (Some before) objects arch → IsViewOfSection view → IsInOrder located_start (sized_in (table_of view)) ordered
-    → asked ≡ ordered → shared ≡ section_fault (section_bytes view) asked → shared ≡ None → ArePrepared view arch kept sources ordered
-prepared view objects before arch kept omitted sources ordered asked shared before_is h machine read order asked_is shared_is none =
+pub prepared : (view : View) (objects : List Object) (before arch : Arch) (kept : List Func) (omitted : List Omitted) (descriptions : List Function) (ordered asked : List Located) (shared : Option VerifyFault) → before ≡ (table_of view).arch
+    → AreWithDescriptions (Some before) objects arch kept omitted descriptions → HaveMachine (Some before) objects arch → IsViewOfSection view → IsInOrder located_start (sized_in (table_of view)) ordered
+    → asked ≡ ordered → shared ≡ section_fault (section_bytes view) asked → shared ≡ None → ArePrepared view arch kept descriptions ordered
+prepared view objects before arch kept omitted descriptions ordered asked shared before_is h machine read order asked_is shared_is none =
     let no_fault : section_fault (section_bytes view) ordered ≡ None = subst (λ (ls : List Located). section_fault (section_bytes view) ls ≡ None) asked_is (sym shared_is ∙ none) in
     let arch_is : arch ≡ (table_of view).arch = sym (same_machine before arch objects machine) ∙ before_is in
     record {
@@ -150,14 +150,14 @@ prepared view objects before arch kept omitted sources ordered asked shared befo
       none = no_fault;
       comparable = subst (λ (a : Arch). AreComparable a ordered) (sym arch_is) (comparable view ordered read order no_fault);
       rise = starts_rise (section_bytes view) (table_of view) ordered order no_fault;
-      holders = holders_of_both arch (dwarf_at h.functions) kept sources (have_holders before objects arch kept omitted sources h machine);
+      holders = holders_of_both arch (dwarf_at h.functions) kept descriptions (have_holders before objects arch kept omitted descriptions h machine);
       kept_rises = kept_rise arch kept h.writable;
     }
 
-pub has_verdict : (view : View) (objects : List Object) (before arch : Arch) (kept : List Func) (omitted : List Omitted) (sources : List Function) (ordered asked : List Located) (verdict : Verdict) → before ≡ (table_of view).arch
-    → AreWithSources (Some before) objects arch kept omitted sources → HaveMachine (Some before) objects arch → ArePrepared view arch kept sources ordered → asked ≡ ordered
-    → IsVerdictBy (table_of view).functions (located_functions asked) kept (answers_of kept sources) verdict → Verifies (section_bytes view) (table_of view) objects (Ok verdict)
-has_verdict view objects before arch kept omitted sources ordered asked verdict before_is h machine p asked_is is =
-    is_verified view objects arch kept omitted sources ordered verdict
-    (subst (λ (a : Arch). AreWithSources (Some a) objects arch kept omitted sources) before_is h) (subst (λ (a : Arch). HaveMachine (Some a) objects arch) before_is machine) p.order p.none
-    (subst (λ (ls : List Located). IsVerdictBy (table_of view).functions (located_functions ls) kept (answers_of kept sources) verdict) asked_is is)
+pub has_verdict : (view : View) (objects : List Object) (before arch : Arch) (kept : List Func) (omitted : List Omitted) (descriptions : List Function) (ordered asked : List Located) (verdict : Verdict) → before ≡ (table_of view).arch
+    → AreWithDescriptions (Some before) objects arch kept omitted descriptions → HaveMachine (Some before) objects arch → ArePrepared view arch kept descriptions ordered → asked ≡ ordered
+    → IsVerdictBy (table_of view).functions (located_functions asked) kept (answers_of kept descriptions) verdict → Verifies (section_bytes view) (table_of view) objects (Ok verdict)
+has_verdict view objects before arch kept omitted descriptions ordered asked verdict before_is h machine p asked_is is =
+    is_verified view objects arch kept omitted descriptions ordered verdict
+    (subst (λ (a : Arch). AreWithDescriptions (Some a) objects arch kept omitted descriptions) before_is h) (subst (λ (a : Arch). HaveMachine (Some a) objects arch) before_is machine) p.order p.none
+    (subst (λ (ls : List Located). IsVerdictBy (table_of view).functions (located_functions ls) kept (answers_of kept descriptions) verdict) asked_is is)

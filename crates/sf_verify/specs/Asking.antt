@@ -11,9 +11,9 @@ use Rattle.sf_model.specs.Content.{content_fits}
 use Rattle.sf_model.specs.Function.{RowsRise}
 use Rattle.sf_model.specs.Lookup.{contains}
 use Rattle.sf_write.specs.Stored.{stored_in}
-use Rattle.sf_express.specs.Pieces.{ArePieces, said_by}
+use Rattle.sf_express.specs.ContentRanges.{AreRanges, said_by}
 use Rattle.frame_functions.specs.Functions.{holds_address, Function}
-use Rattle.frame_functions.specs.declared.entries.InputFunctions.{InputFunctions}
+use Rattle.frame_functions.specs.declared.function_list.InputFunctions.{InputFunctions}
 use Rattle.frame_functions.specs.declared.keyed_content.KeyedContent.{KeyedContent}
 use Rattle.frame_functions.specs.ContentAt.{AllFit, Answers, said_in, with_key}
 use Rattle.sf_verify.specs.declared.dwarf_cursor.DwarfCursor.{DwarfCursor}
@@ -66,13 +66,13 @@ pub record AreHolders (arch : Arch) (answers : Answers) (kept : List Func) (omit
   pub omitted_here : All (λ (f : Function). f.arch ≡ arch) omitted
 
 -- ---- the function that was found last
--- the function's pieces have at each of its addresses the content that is there
+-- the function's ranges have at each of its addresses the content that is there
 pub record IsHeld (arch : Arch) (answers : Answers) (h : CurrentFunction) : Type 0 where
   pub end : h.start + h.size ≤ 2 ^ 64
-  pub pieces : 0 < h.size → ArePieces h.size h.pieces.items
-  pub says : (pc : ℕ) (content : Option Content) → h.start ≤ pc → pc < h.start + h.size → said_by (pc - h.start) None h.pieces.items ≡ Some content
+  pub ranges : 0 < h.size → AreRanges h.size h.ranges.items
+  pub says : (pc : ℕ) (content : Option Content) → h.start ≤ pc → pc < h.start + h.size → said_by (pc - h.start) None h.ranges.items ≡ Some content
       → answers pc ≡ option_map (with_key h.key) content
-  pub fits : AllFit arch h.pieces.items
+  pub fits : AllFit arch h.ranges.items
 
 -- the kept functions before a place end at an address or below it
 abbrev pub KeptPassed : List Func → (next pc : ℕ) → Type 0

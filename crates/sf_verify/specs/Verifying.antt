@@ -9,7 +9,7 @@ use Rattle.sf_merge.specs.declared.located.Located.{Located}
 use Rattle.sf_merge.specs.Located.{located_start}
 use Rattle.sf_merge.specs.OneSection.{shared_entry}
 use Rattle.sf_asm.specs.Described.{Describe}
-use Rattle.frame_functions.specs.declared.entry.Entry.{Entry}
+use Rattle.frame_functions.specs.declared.read_function.ReadFunction.{ReadFunction}
 use Rattle.sf_asm.specs.declared.fault.GatherFault.{GatherFault}
 use Rattle.sf_asm.specs.declared.fault.GatherFault.TheVariants as gather
 use Rattle.frame_functions.specs.Functions.{Function}
@@ -31,7 +31,7 @@ refused (Some shared) (gather.Overlap start item other second) = shared
 refused section fault = Gather fault
 
 -- the first fault of the inputs and the section
-abbrev pub first_verify_fault : Result (List Entry) GatherFault → (section : Option VerifyFault) → Option VerifyFault
+abbrev pub first_verify_fault : Result (List ReadFunction) GatherFault → (section : Option VerifyFault) → Option VerifyFault
 first_verify_fault (Ok ordered) section = section
 first_verify_fault (Err fault) section = Some (refused section fault)
 
@@ -45,7 +45,7 @@ VerdictUnless None table objects result =
 -- an address are in the order of their starts, and then of their entries
 abbrev pub Verifies : (bytes : List ℕ) → Table → List Object → Result Verdict VerifyFault → Type 0
 Verifies bytes table objects result =
-    (inputs : Result (List Entry) GatherFault) × Gathers (Some table.arch) objects inputs
+    (inputs : Result (List ReadFunction) GatherFault) × Gathers (Some table.arch) objects inputs
     × (ordered : List Located) × IsInOrder located_start (sized_in table) ordered
     × VerdictUnless (first_verify_fault inputs (section_fault bytes ordered)) table objects result
 

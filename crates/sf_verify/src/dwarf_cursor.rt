@@ -4,19 +4,19 @@ ghost use Rattle.std.specs.Prelude.{◌≡◌, ◌≤◌, ◌<◌, ◌+◌, ◌^
 ghost use Rattle.sf_model.specs.declared.function.Func.{Func as function};
 ghost use Rattle.sf_model.specs.declared.machine.Arch.{Arch as machine};
 ghost use Rattle.sf_decode.specs.View.{head_of, rows_left};
-ghost use Rattle.sf_express.specs.Pieces.{ArePieces, PiecesSay, piece_of_row};
+ghost use Rattle.sf_express.specs.ContentRanges.{AreRanges, RangesSay, range_of_row};
 ghost use Rattle.frame_functions.specs.ContentAt.{AllFit, Answers, form_content};
 ghost use Rattle.frame_functions.specs.Functions.{Function as lent};
-ghost use Rattle.frame_functions.specs.Sources.{source_function};
+ghost use Rattle.frame_functions.specs.Descriptions.{described_function};
 ghost use Rattle.sf_verify.specs.Comparing.{func_read, func_says};
 ghost use Rattle.sf_verify.specs.Asking.{AreHolders, Finds, FindsKept, FindsOmitted, IsHeld, IsReady, IsSame, KeptPassed, Knows, OmittedPassed, answers_of, says};
 
 use crate::kept::Kept;
-use frame_functions::{KeyedContent, Source, Sources, content_pieces};
 use cfa_machine::Runner;
+use frame_functions::{Description, Descriptions, KeyedContent, content_ranges};
 use sf_base::NoMemory;
 use sf_decode::RowIter;
-use sf_express::{Piece, piece_at};
+use sf_express::{ContentRange, range_at};
 use sf_model::{Arch, FuncHead, Key};
 use std::alloc::Global;
 
@@ -33,7 +33,7 @@ pub struct CurrentFunction {
     start: u64,
     size: u64,
     key: Key,
-    pieces: Vec<Piece>,
+    ranges: Vec<ContentRange>,
 }
 
 /// The functions of the inputs by rising start, kept and omitted ones, and how far they are scanned.
@@ -41,7 +41,7 @@ pub struct CurrentFunction {
 pub struct DwarfCursor<'a> {
     arch: Arch,
     kept: Kept<'a>,
-    omitted: &'a Sources<'a>,
+    omitted: &'a Descriptions<'a>,
     // Functions before these end by the address that was asked for last.
     next_kept: usize,
     next_omitted: usize,
@@ -103,7 +103,7 @@ fn has_head(kept: &Kept<'_>, place: usize, head: &FuncHead) -> bool
 
 /// Returns whether there is an omitted function at a place, and it starts at an address or below it.
 #[inline(always)]
-fn omitted_starts(omitted: &Sources<'_>, place: usize, pc: u64) -> bool
+fn omitted_starts(omitted: &Descriptions<'_>, place: usize, pc: u64) -> bool
     ensures within { IsTrue result → place < length omitted.now.functions }
     ensures starts { (d : lent) → IsTrue result → (get_or omitted.now.functions place d).start ≤ pc }
     ensures after { (d : lent) → result ≡ false → place < length omitted.now.functions → pc < (get_or omitted.now.functions place d).start }
@@ -112,7 +112,7 @@ fn omitted_starts(omitted: &Sources<'_>, place: usize, pc: u64) -> bool
 }
 
 /// Returns the place of the first omitted function, from a place on, that ends after an address.
-fn pass_omitted(omitted: &Sources<'_>, passed: usize, pc: u64) -> usize
+fn pass_omitted(omitted: &Descriptions<'_>, passed: usize, pc: u64) -> usize
     requires passed { OmittedPassed omitted.now.functions passed pc }
     ensures passed { OmittedPassed omitted.now.functions result pc }
     ensures after { (d : lent) → result < length omitted.now.functions → pc < (get_or omitted.now.functions result d).start + (get_or omitted.now.functions result d).size }
@@ -124,19 +124,19 @@ fn pass_omitted(omitted: &Sources<'_>, passed: usize, pc: u64) -> usize
     next
 }
 
-/// Takes the rows of a kept function as pieces.
+/// Takes the rows of a kept function as ranges.
 fn hold_kept(held: &mut CurrentFunction, head: &FuncHead, rows: RowIter<'_>) -> Result<(), NoMemory>
     ensures start { OnOk result (held.new.start ≡ head.now.start) }
     ensures size { OnOk result (held.new.size ≡ head.now.size) }
     ensures key { OnOk result (held.new.key ≡ head.now.key) }
-    ensures pieces { OnOk result (held.new.pieces.items ≡ map piece_of_row (rows_left rows.entry)) }
+    ensures ranges { OnOk result (held.new.ranges.items ≡ map range_of_row (rows_left rows.entry)) }
 {
     held.start = head.start;
     held.size = u64::from(head.size);
     held.key = head.key;
-    held.pieces.clear();
+    held.ranges.clear();
     for row in rows {
-        held.pieces.push(Piece {
+        held.ranges.push(ContentRange {
             start: u64::from(row.start),
             content: Some(row.content),
         })?;
@@ -147,22 +147,22 @@ fn hold_kept(held: &mut CurrentFunction, head: &FuncHead, rows: RowIter<'_>) -> 
 /// Runs the instructions of an omitted function, and returns it with its contents.
 fn hold_omitted<'a>(
     alloc: Global,
-    source: &Source<'a>,
+    description: &Description<'a>,
     run: &mut Runner<'a>,
 ) -> Result<CurrentFunction, NoMemory>
-    requires { 0 < source.now.facts.size }
-    ensures start { IfOk result (λ held. held.start ≡ source.now.facts.start) }
-    ensures size { IfOk result (λ held. held.size ≡ source.now.facts.size) }
-    ensures key { IfOk result (λ held. held.key ≡ source.now.facts.key) }
-    ensures pieces { IfOk result (λ held. ArePieces source.now.facts.size held.pieces.items) }
-    ensures says { IfOk result (λ held. PiecesSay source.now.facts.size held.pieces.items (form_content (source_function source.now))) }
-    ensures fits { IfOk result (λ held. AllFit source.now.arch held.pieces.items) }
+    requires { 0 < description.now.facts.size }
+    ensures start { IfOk result (λ held. held.start ≡ description.now.facts.start) }
+    ensures size { IfOk result (λ held. held.size ≡ description.now.facts.size) }
+    ensures key { IfOk result (λ held. held.key ≡ description.now.facts.key) }
+    ensures ranges { IfOk result (λ held. AreRanges description.now.facts.size held.ranges.items) }
+    ensures says { IfOk result (λ held. RangesSay description.now.facts.size held.ranges.items (form_content (described_function description.now))) }
+    ensures fits { IfOk result (λ held. AllFit description.now.arch held.ranges.items) }
 {
     Ok(CurrentFunction {
-        start: source.facts.start,
-        size: source.facts.size,
-        key: source.facts.key,
-        pieces: content_pieces(alloc, source, run)?,
+        start: description.facts.start,
+        size: description.facts.size,
+        key: description.facts.key,
+        ranges: content_ranges(alloc, description, run)?,
     })
 }
 
@@ -170,14 +170,14 @@ impl CurrentFunction {
     /// Returns a function without addresses.
     fn new(alloc: Global) -> CurrentFunction
         ensures size { result.size ≡ 0 }
-        ensures none { result.pieces.items ≡ [] }
+        ensures none { result.ranges.items ≡ [] }
         ensures start { result.start ≡ 0 }
     {
         CurrentFunction {
             start: 0,
             size: 0,
             key: Key::A,
-            pieces: Vec::new(alloc),
+            ranges: Vec::new(alloc),
         }
     }
 
@@ -194,10 +194,10 @@ impl CurrentFunction {
         requires from { self.now.start ≤ pc }
         requires to { pc < self.now.start + self.now.size }
         requires end { self.now.start + self.now.size ≤ 2 ^ 64 }
-        requires pieces { ArePieces self.now.size self.now.pieces.items }
+        requires ranges { AreRanges self.now.size self.now.ranges.items }
         ensures { (arch : machine) (answers : Answers) → IsHeld arch answers self.now → Knows arch answers pc result }
     {
-        let (content, last) = piece_at(&self.pieces, self.size, pc - self.start);
+        let (content, last) = range_at(&self.ranges, self.size, pc - self.start);
         let content = content?;
         Some(ContentUntil {
             said: KeyedContent {
@@ -215,7 +215,7 @@ impl<'a> DwarfCursor<'a> {
         alloc: Global,
         arch: Arch,
         kept: Kept<'a>,
-        omitted: &'a Sources<'a>,
+        omitted: &'a Descriptions<'a>,
     ) -> DwarfCursor<'a>
         requires { AreHolders arch (answers_of kept omitted.now.functions) kept omitted.now.functions }
         ensures ready { IsReady result 0 }
@@ -285,8 +285,8 @@ impl<'a> DwarfCursor<'a> {
             return Ok(false);
         }
         let omitted = self.omitted;
-        let source = omitted.get(self.next_omitted);
-        self.held = hold_omitted(alloc, &source, &mut self.run)?;
+        let description = omitted.get(self.next_omitted);
+        self.held = hold_omitted(alloc, &description, &mut self.run)?;
         Ok(true)
     }
 

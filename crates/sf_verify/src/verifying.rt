@@ -19,7 +19,7 @@ use crate::kept::Kept;
 use crate::overlap::shared_address;
 use crate::sweep::compare;
 use frame_functions::InputFunctions;
-use sf_asm::{GatherFault, Input, gather_with_sources};
+use sf_asm::{GatherFault, Input, gather_with_descriptions};
 use sf_base::NoMemory;
 use sf_decode::View;
 use sf_merge::{SectionFunctions, in_order};
@@ -53,13 +53,18 @@ fn verdict_on(
     requires machine { gathered.now.arch ≡ (table_of view.now).arch }
     requires comparable { AreComparable gathered.now.arch ordered.now }
     requires rise { StartsRise ordered.now }
-    requires holders { AreHolders gathered.now.arch (answers_of (kept_in gathered.now) gathered.now.sources.functions) (kept_in gathered.now) gathered.now.sources.functions }
+    requires holders { AreHolders gathered.now.arch (answers_of (kept_in gathered.now) gathered.now.descriptions.functions) (kept_in gathered.now) gathered.now.descriptions.functions }
     requires stored { All (IsStored gathered.now.rows) gathered.now.kept }
     requires few { length (kept_in gathered.now) ≤ 2 ^ 21 }
     requires kept { KeptRise (kept_in gathered.now) }
-    ensures { IfOk result (IsVerdictBy (table_of view.now).functions (located_functions ordered.now) (kept_in gathered.now) (answers_of (kept_in gathered.now) gathered.now.sources.functions)) }
+    ensures { IfOk result (IsVerdictBy (table_of view.now).functions (located_functions ordered.now) (kept_in gathered.now) (answers_of (kept_in gathered.now) gathered.now.descriptions.functions)) }
 {
-    let mut dwarf = DwarfCursor::new(alloc, gathered.arch, Kept::new(gathered), &gathered.sources);
+    let mut dwarf = DwarfCursor::new(
+        alloc,
+        gathered.arch,
+        Kept::new(gathered),
+        &gathered.descriptions,
+    );
     if let Some(difference) = compare(alloc, ordered, &mut dwarf)? {
         return Ok(Verdict::Differs {
             pc: difference.pc,
@@ -95,7 +100,7 @@ pub fn verify(alloc: Global, view: &View<'_>, inputs: &[Input<'_>]) -> Result<Ve
     ensures fault { IfErr result (IsFirstVerifyFault (section_bytes view.now) (table_of view.now) (map object_of inputs.now)) }
     ensures answered { IfErr result (λ fault. IsTrue (is_returned fault)) }
 {
-    let gathered = gather_with_sources(alloc, inputs, Some(view.arch()));
+    let gathered = gather_with_descriptions(alloc, inputs, Some(view.arch()));
     let ordered = in_order(alloc, view)?;
     let shared = shared_address(view, &ordered);
     match gathered {

@@ -1,7 +1,7 @@
 use Rattle.std.proofs.Common.{ℕ, ◌++◌, ◌∷◌, [], Some, List, length, subst, sym}
 use Rattle.eh_records.specs.Cie.{cie_view}
 use Rattle.frame_functions.specs.Numbers.{AreNumbered, IsNumberOf}
-use Rattle.frame_functions.specs.Sources.{Common, common_of, common_view}
+use Rattle.frame_functions.specs.Descriptions.{Common, common_of, common_view}
 use Rattle.frame_functions.proofs.CommonParts.{number_added, number_of_named, numbered_still}
 use Rattle.frame_functions.proofs.lent.add_common.Goals as goal
 
@@ -9,7 +9,7 @@ pub returns-clause-numbered : goal.returns-clause-numbered
 returns-clause-numbered c =
     let section = c.args.section.now in
     let cie = cie_view c.args.fde.now.cie in
-    let old = c.args.sources.now.common in
+    let old = c.args.descriptions.now.common in
     let added = common_view c.common_part.result in
     let is = c.in_ok-number.ensures.common in
     let first : IsNumberOf (old ++ added ∷ []) (Some (common_of section.arch cie)) (length old) = subst (λ (x : Common). IsNumberOf (old ++ added ∷ []) (Some x) (length old)) c.common_part.ensures (number_added old added) in

@@ -7,4 +7,4 @@ pub returns-in-Some-clause-number : goal.returns-in-Some-clause-number
 returns-in-Some-clause-number c =
     let section = c.args.section.now in
     let cie = cie_view c.args.fde.now.cie in
-    named_number section.arch section.bytes.now cie c.args.sources.now.common c.in-Some.number c.requires.lent.named (c.requires.numbered cie.place c.in-Some.number (sym c.get.ensures ∙ c.in-Some.is))
+    named_number section.arch section.bytes.now cie c.args.descriptions.now.common c.in-Some.number c.requires.lent.named (c.requires.numbered cie.place c.in-Some.number (sym c.get.ensures ∙ c.in-Some.is))

@@ -9,7 +9,7 @@ use Rattle.eh_records.specs.Named.{HasNamed}
 use Rattle.eh_records.specs.Section.{frames}
 use Rattle.eh_records.specs.View.{bytes_of, entries, frames_left}
 use Rattle.frame_functions.specs.Functions.{functions_in}
-use Rattle.frame_functions.specs.Sources.{function_by_span}
+use Rattle.frame_functions.specs.Descriptions.{function_by_span}
 use Rattle.frame_functions.specs.Views.{overlaid, seen_section, written_by}
 use Rattle.frame_functions.proofs.CommonParts.{none_numbered}
 use Rattle.frame_functions.proofs.Lending.{one_entry}

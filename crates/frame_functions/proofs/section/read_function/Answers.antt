@@ -5,7 +5,7 @@ use Rattle.cfa_machine.specs.RowList.{AreRows}
 use Rattle.eh_records.specs.Fde.{fde_view}
 use Rattle.frame_functions.specs.Functions.{function_at}
 use Rattle.frame_functions.specs.Views.{overlaid, seen_section, written_by}
-use Rattle.frame_functions.proofs.FunctionsOfSection.{reads_function, reads_source, span_refused, run_refused}
+use Rattle.frame_functions.proofs.FunctionsOfSection.{reads_function, reads_description, span_refused, run_refused}
 use Rattle.frame_functions.proofs.MadeRows.{first_of, good_rows, made_here, outcome_is_sound, outcome_means, outcome_runs, refused_here, rows_refused}
 use Rattle.frame_functions.proofs.section.read_function.Goals as goal
 
@@ -71,4 +71,4 @@ returns-clause-function c = λ relocations.
     let values = overlaid (written_by c.args.overlay.now) in
     let f = function_at arch c.args.section.now.item section (fde_view c.args.fde.now) (c.in_ok-start.start, c.in_ok-start.size) in
     let made = made_here f _ _ c.in_ok-outcome.outcome c.facts_of-facts.ensures c.in_ok-begin_rows.ensures.begins c.in_ok-outcome.ensures.given in
-    reads_source arch c.args.section.now.item section values (fde_view c.args.fde.now) (c.in_ok-start.start, c.in_ok-start.size) (c.in_ok-start.ensures.exact relocations) (outcome_runs f _ _ (first_of f) made)
+    reads_description arch c.args.section.now.item section values (fde_view c.args.fde.now) (c.in_ok-start.start, c.in_ok-start.size) (c.in_ok-start.ensures.exact relocations) (outcome_runs f _ _ (first_of f) made)

@@ -1,6 +1,6 @@
 use Rattle.std.proofs.Common.{◌<◌, ◌+◌, List, length, take, ap, subst, sym, arith}
 use Rattle.frame_functions.specs.Functions.{Function}
-use Rattle.frame_functions.specs.Sources.{source_function}
+use Rattle.frame_functions.specs.Descriptions.{described_function}
 use Rattle.sf_lookup.specs.declared.span.Span.{Span}
 use Rattle.signal_frames.specs.declared.frame.SignalFrame.{SignalFrame}
 use Rattle.module_tables.specs.Signals.{AreSignals}
@@ -10,9 +10,9 @@ use Rattle.module_tables.proofs.signals.signals_of.Goals.{in-Some+in_ok-push, in
 
 pub loop-number-preserved : goal.loop-number-preserved
 loop-number-preserved c =
-    let fs = c.args.sources.now.functions in
+    let fs = c.args.descriptions.now.functions in
     let k = c.loop-number.number in
-    let f : Function = source_function c.get.result in
+    let f : Function = described_function c.get.result in
     let before = c.loop-number.signals.items in
     let lt : k < length fs = omega (c.loop-number-test.true, c.len-number-end.ensures, arith) in
     let so_far = c.loop-number.invariant in

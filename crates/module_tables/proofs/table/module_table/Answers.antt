@@ -10,4 +10,4 @@ returns-in-Ok-clause-table c =
     let made = c.in_ok-made.made in
     let all = c.in_ok-made.ensures.linked in
     table_of (form_of c.args.file) (bytes_of c.args.file) c.args.base c.args.at made.linked.section.items made.linked.kept made.linked.omitted.items made.linked.plts.items c.in-Ok.signals.items c.requires.form all.linked
-    (subst (λ (fs : List Function). AreSignals fs c.in-Ok.signals.items) all.sources_are c.in-Ok.ensures)
+    (subst (λ (fs : List Function). AreSignals fs c.in-Ok.signals.items) all.descriptions_are c.in-Ok.ensures)

@@ -1,6 +1,6 @@
 use Rattle.std.proofs.Common.{◌≡◌, drop}
 use Rattle.std.specs.Option.{option_map}
-use Rattle.frame_functions.specs.Entry.{spans_of}
+use Rattle.frame_functions.specs.ReadFunction.{spans_of}
 use Rattle.sf_asm.specs.Linking.{overlap_fault, overlap_in, overlap_left}
 use Rattle.sf_asm.proofs.gathering.check_overlaps.Given as goal
 

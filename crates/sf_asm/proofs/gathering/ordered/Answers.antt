@@ -1,10 +1,10 @@
 use Rattle.std.proofs.Common.{inr, map, subst, ◌∙◌}
 use Rattle.std.proofs.lemmas.List.Sorted.{All-permutation}
 use Rattle.std.proofs.lemmas.Result.{err_from_is_err_and}
-use Rattle.frame_functions.specs.Entry.{IsSound}
+use Rattle.frame_functions.specs.ReadFunction.{IsSound}
 use Rattle.sf_asm.specs.Functions.{object_of}
 use Rattle.frame_functions.specs.ReadSoFar.{AreSound}
-use Rattle.frame_functions.specs.Kept.{entry_of}
+use Rattle.frame_functions.specs.Kept.{read_of}
 use Rattle.sf_asm.specs.Linking.{fault_of_limit}
 use Rattle.sf_asm.proofs.Limits.{fault_is}
 use Rattle.sf_asm.proofs.Machines.{inputs_have}
@@ -24,7 +24,7 @@ returns-in_err-held-clause-fault c =
     let all = c.in_ok-machines.ensures.reads in
     rw (p.1, p.2)
     (inr (past_limit c.args.before (map object_of c.args.inputs.now) c.first_item.result c.args.lending c.in_ok-machines.field-0.read c.deref.result.now c.first_item.ensures (c.deref.ensures.value ∙ c.in_ok-machines.ensures.machines) c.in_ok-arch.ensures.exact all
-    (fault_of_limit c.in_err-held.field-0.0) (fault_is (map entry_of all.0) c.in_err-held.field-0.0 (c.in_err-held.ensures.fault c.args.lending all.0 all.2))))
+    (fault_of_limit c.in_err-held.field-0.0) (fault_is (map read_of all.0) c.in_err-held.field-0.0 (c.in_err-held.ensures.fault c.args.lending all.0 all.2))))
 
 pub returns-in_err-check_overlaps-clause-fault : goal.returns-in_err-check_overlaps-clause-fault
 returns-in_err-check_overlaps-clause-fault c =

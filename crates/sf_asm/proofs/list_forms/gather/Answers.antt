@@ -1,11 +1,11 @@
 use Rattle.std.proofs.Common.{ℕ, ◌∙◌, arith, length, map, ap, sym}
 use Rattle.std.proofs.lemmas.Result.{err_from_is_err_and}
 use Rattle.std.proofs.lemmas.List.{length-map}
-use Rattle.frame_functions.specs.Entry.{kept_by_item}
+use Rattle.frame_functions.specs.ReadFunction.{kept_by_item}
 use Rattle.sf_asm.specs.Functions.{object_of}
 use Rattle.sf_asm.specs.Inputs.{first_item}
 use Rattle.sf_asm.proofs.GatheredInputs.{gathered_within}
-use Rattle.sf_asm.proofs.HandedOut.{each_writable, is_of}
+use Rattle.sf_asm.proofs.KeptByInput.{each_writable, is_of}
 use Rattle.sf_asm.proofs.Kept.{kept_of_checked, some_kept_of_checked}
 use Rattle.sf_asm.proofs.NeverMemory.{first_is_answered}
 use Rattle.sf_asm.proofs.list_forms.gather.Goals as goal

@@ -5,4 +5,4 @@ use Rattle.sf_asm.proofs.list_forms.omitted_at.Given as goal
 
 -- what is found among all is found among those that are left
 abbrev pub invariant-loop-number : goal.invariant-loop-number
-invariant-loop-number l = find (holds_address l.pc) l.sources.functions ≡ find (holds_address l.pc) (drop l.number l.sources.functions)
+invariant-loop-number l = find (holds_address l.pc) l.descriptions.functions ≡ find (holds_address l.pc) (drop l.number l.descriptions.functions)

@@ -1,5 +1,5 @@
 use Rattle.std.proofs.Common.{take}
-use Rattle.sf_asm.proofs.HandedOut.{AreSortedOut}
+use Rattle.sf_asm.proofs.KeptByInput.{AreSortedOut}
 use Rattle.sf_asm.proofs.list_forms.sort_out.Given as goal
 
 -- the functions so far are sorted out

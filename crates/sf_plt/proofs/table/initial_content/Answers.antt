@@ -8,6 +8,6 @@ use Rattle.sf_plt.proofs.table.initial_content.Goals as goal
 pub returns : goal.returns
 unfolding initial_content
 returns c =
-    let source = c.args.source.now in
+    let description = c.args.description.now in
     c.ok.ensures.value
-    ∙ initial_said source.arch source.code source.factor (listing (cursor source.initial)) source.row c.content_at.result source.given (c.content_at.ensures.exact 0)
+    ∙ initial_said description.arch description.code description.factor (listing (cursor description.initial)) description.row c.content_at.result description.given (c.content_at.ensures.exact 0)

@@ -1,6 +1,6 @@
 use Rattle.std.proofs.Common.{◌≡◌, true, sym, ◌∙◌}
 use Rattle.sf_verify.specs.Agreement.{IsFitting, agree}
-use Rattle.sf_verify.proofs.Test.{alike, says_agree}
+use Rattle.sf_verify.proofs.AlikeContents.{alike, says_agree}
 use Rattle.sf_verify.proofs.agreement.recover_alike.Goals as goal
 
 pub returns-clause-alike : goal.returns-clause-alike

@@ -1,5 +1,5 @@
 use Rattle.std.proofs.Common.{◌≡◌, map}
-use Rattle.sf_express.specs.Pieces.{piece_of_row}
+use Rattle.sf_express.specs.ContentRanges.{range_of_row}
 use Rattle.sf_verify.proofs.dwarf_cursor.hold_kept.Given as goal
 
 abbrev pub invariant-loop-row : goal.invariant-loop-row
@@ -7,5 +7,5 @@ invariant-loop-row l = record {
   start : l.held.start ≡ l.head.start;
   size : l.held.size ≡ l.head.size;
   key : l.held.key ≡ l.head.key;
-  pieces : l.held.pieces.items ≡ map piece_of_row l.yielded;
+  ranges : l.held.ranges.items ≡ map range_of_row l.yielded;
 }

@@ -1,4 +1,4 @@
-use Rattle.sf_verify.proofs.Test.{alike, says_agree}
+use Rattle.sf_verify.proofs.AlikeContents.{alike, says_agree}
 use Rattle.sf_verify.proofs.laws.the_test_of_agreement_is_exact.Goals as goal
 
 pub returns : goal.returns

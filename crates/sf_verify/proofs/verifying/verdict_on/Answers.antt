@@ -22,7 +22,7 @@ pub returns : goal.returns
 returns c =
     let section = section_at (located_functions c.args.ordered.now) in
     let functions = (table_of c.args.view.now).functions in
-    let answers : says c.new-dwarf.result ≡ answers_of (kept_in c.args.gathered.now) c.args.gathered.now.sources.functions = c.new-dwarf.ensures.says ∙ ap (λ (ks : List Func). answers_of ks c.args.gathered.now.sources.functions) c.new.ensures in
+    let answers : says c.new-dwarf.result ≡ answers_of (kept_in c.args.gathered.now) c.args.gathered.now.descriptions.functions = c.new-dwarf.ensures.says ∙ ap (λ (ks : List Func). answers_of ks c.args.gathered.now.descriptions.functions) c.new.ensures in
     let none = subst (λ (d : Option Difference). ComparesAll section (says c.new-dwarf.result) d) c.in_default.is c.in_ok-difference.ensures in
     record {
       agree = subst (λ (q : Answers). ComparesAll section q None) answers none;

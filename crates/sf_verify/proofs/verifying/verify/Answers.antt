@@ -11,34 +11,34 @@ use Rattle.sf_verify.proofs.verifying.verify.Goals as goal
 
 pub verdict_on-requires-clause-machine : goal.verdict_on-requires-clause-machine
 verdict_on-requires-clause-machine c =
-    (prepared c.args.view.now (map object_of c.args.inputs.now) c.arch.result c.in-Ok.gathered.arch (kept_in c.in-Ok.gathered) c.in-Ok.gathered.omitted.items c.in-Ok.gathered.sources.functions c.in_ok-ordered.ordered c.in_ok-ordered.ordered c.shared_address-shared.result
+    (prepared c.args.view.now (map object_of c.args.inputs.now) c.arch.result c.in-Ok.gathered.arch (kept_in c.in-Ok.gathered) c.in-Ok.gathered.omitted.items c.in-Ok.gathered.descriptions.functions c.in_ok-ordered.ordered c.in_ok-ordered.ordered c.shared_address-shared.result
     c.arch.ensures c.in-Ok.ensures.gathered c.in-Ok.ensures.machine c.in_order.ensures.read c.in_ok-ordered.ensures.order refl c.shared_address-shared.ensures c.in-None.is).machine
 
 pub verdict_on-requires-clause-comparable : goal.verdict_on-requires-clause-comparable
 verdict_on-requires-clause-comparable c =
-    (prepared c.args.view.now (map object_of c.args.inputs.now) c.arch.result c.in-Ok.gathered.arch (kept_in c.in-Ok.gathered) c.in-Ok.gathered.omitted.items c.in-Ok.gathered.sources.functions c.in_ok-ordered.ordered c.in_ok-ordered.ordered c.shared_address-shared.result
+    (prepared c.args.view.now (map object_of c.args.inputs.now) c.arch.result c.in-Ok.gathered.arch (kept_in c.in-Ok.gathered) c.in-Ok.gathered.omitted.items c.in-Ok.gathered.descriptions.functions c.in_ok-ordered.ordered c.in_ok-ordered.ordered c.shared_address-shared.result
     c.arch.ensures c.in-Ok.ensures.gathered c.in-Ok.ensures.machine c.in_order.ensures.read c.in_ok-ordered.ensures.order refl c.shared_address-shared.ensures c.in-None.is).comparable
 
 pub verdict_on-requires-clause-rise : goal.verdict_on-requires-clause-rise
 verdict_on-requires-clause-rise c =
-    (prepared c.args.view.now (map object_of c.args.inputs.now) c.arch.result c.in-Ok.gathered.arch (kept_in c.in-Ok.gathered) c.in-Ok.gathered.omitted.items c.in-Ok.gathered.sources.functions c.in_ok-ordered.ordered c.in_ok-ordered.ordered c.shared_address-shared.result
+    (prepared c.args.view.now (map object_of c.args.inputs.now) c.arch.result c.in-Ok.gathered.arch (kept_in c.in-Ok.gathered) c.in-Ok.gathered.omitted.items c.in-Ok.gathered.descriptions.functions c.in_ok-ordered.ordered c.in_ok-ordered.ordered c.shared_address-shared.result
     c.arch.ensures c.in-Ok.ensures.gathered c.in-Ok.ensures.machine c.in_order.ensures.read c.in_ok-ordered.ensures.order refl c.shared_address-shared.ensures c.in-None.is).rise
 
 pub verdict_on-requires-clause-holders : goal.verdict_on-requires-clause-holders
 verdict_on-requires-clause-holders c =
-    (prepared c.args.view.now (map object_of c.args.inputs.now) c.arch.result c.in-Ok.gathered.arch (kept_in c.in-Ok.gathered) c.in-Ok.gathered.omitted.items c.in-Ok.gathered.sources.functions c.in_ok-ordered.ordered c.in_ok-ordered.ordered c.shared_address-shared.result
+    (prepared c.args.view.now (map object_of c.args.inputs.now) c.arch.result c.in-Ok.gathered.arch (kept_in c.in-Ok.gathered) c.in-Ok.gathered.omitted.items c.in-Ok.gathered.descriptions.functions c.in_ok-ordered.ordered c.in_ok-ordered.ordered c.shared_address-shared.result
     c.arch.ensures c.in-Ok.ensures.gathered c.in-Ok.ensures.machine c.in_order.ensures.read c.in_ok-ordered.ensures.order refl c.shared_address-shared.ensures c.in-None.is).holders
 
 pub verdict_on-requires-clause-kept : goal.verdict_on-requires-clause-kept
 verdict_on-requires-clause-kept c =
-    (prepared c.args.view.now (map object_of c.args.inputs.now) c.arch.result c.in-Ok.gathered.arch (kept_in c.in-Ok.gathered) c.in-Ok.gathered.omitted.items c.in-Ok.gathered.sources.functions c.in_ok-ordered.ordered c.in_ok-ordered.ordered c.shared_address-shared.result
+    (prepared c.args.view.now (map object_of c.args.inputs.now) c.arch.result c.in-Ok.gathered.arch (kept_in c.in-Ok.gathered) c.in-Ok.gathered.omitted.items c.in-Ok.gathered.descriptions.functions c.in_ok-ordered.ordered c.in_ok-ordered.ordered c.shared_address-shared.result
     c.arch.ensures c.in-Ok.ensures.gathered c.in-Ok.ensures.machine c.in_order.ensures.read c.in_ok-ordered.ensures.order refl c.shared_address-shared.ensures c.in-None.is).kept_rises
 
 pub returns-clause-verdict : goal.returns-clause-verdict
 returns-clause-verdict c =
-    has_verdict c.args.view.now (map object_of c.args.inputs.now) c.arch.result c.in-Ok.gathered.arch (kept_in c.in-Ok.gathered) c.in-Ok.gathered.omitted.items c.in-Ok.gathered.sources.functions c.in_ok-ordered.ordered c.in_ok-ordered.ordered c.in_ok-verdict_on-in-None.field-0
+    has_verdict c.args.view.now (map object_of c.args.inputs.now) c.arch.result c.in-Ok.gathered.arch (kept_in c.in-Ok.gathered) c.in-Ok.gathered.omitted.items c.in-Ok.gathered.descriptions.functions c.in_ok-ordered.ordered c.in_ok-ordered.ordered c.in_ok-verdict_on-in-None.field-0
     c.arch.ensures c.in-Ok.ensures.gathered c.in-Ok.ensures.machine
-    (prepared c.args.view.now (map object_of c.args.inputs.now) c.arch.result c.in-Ok.gathered.arch (kept_in c.in-Ok.gathered) c.in-Ok.gathered.omitted.items c.in-Ok.gathered.sources.functions c.in_ok-ordered.ordered c.in_ok-ordered.ordered c.shared_address-shared.result
+    (prepared c.args.view.now (map object_of c.args.inputs.now) c.arch.result c.in-Ok.gathered.arch (kept_in c.in-Ok.gathered) c.in-Ok.gathered.omitted.items c.in-Ok.gathered.descriptions.functions c.in_ok-ordered.ordered c.in_ok-ordered.ordered c.shared_address-shared.result
     c.arch.ensures c.in-Ok.ensures.gathered c.in-Ok.ensures.machine c.in_order.ensures.read c.in_ok-ordered.ensures.order refl c.shared_address-shared.ensures c.in-None.is)
     refl c.in_ok-verdict_on-in-None.ensures
 

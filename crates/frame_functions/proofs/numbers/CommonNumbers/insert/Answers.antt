@@ -1,7 +1,7 @@
 use Rattle.std.specs.Option.{option_map}
 use Rattle.eh_records.specs.Named.{standing_cie}
 use Rattle.frame_functions.specs.Numbers.{IsNumberOf}
-use Rattle.frame_functions.specs.Sources.{common_of}
+use Rattle.frame_functions.specs.Descriptions.{common_of}
 use Rattle.frame_functions.proofs.CommonParts.{with_number}
 use Rattle.frame_functions.proofs.numbers.CommonNumbers.insert.Goals as goal
 

@@ -3,10 +3,10 @@ use Rattle.std.proofs.lemmas.List.{get_or_default}
 use Rattle.sf_model.specs.declared.function.Func.{Func}
 use Rattle.sf_model.specs.declared.function.FuncHead.{FuncHead}
 use Rattle.sf_decode.specs.View.{head_of}
-use Rattle.sf_express.specs.Pieces.{piece_of_row}
+use Rattle.sf_express.specs.ContentRanges.{range_of_row}
 use Rattle.sf_asm.proofs.RowAt.{some_of}
 use Rattle.sf_verify.specs.Asking.{says}
-use Rattle.sf_verify.proofs.Holding.{kept_held}
+use Rattle.sf_verify.proofs.HolderContent.{kept_held}
 use Rattle.sf_verify.proofs.dwarf_cursor.DwarfCursor.find_kept.Goals as goal
 
 pub returns-clause-ready : goal.returns-clause-ready
@@ -23,7 +23,7 @@ returns-clause-ready c =
           (c.in_ok-hold_kept.ensures.start ∙ ap (λ (h : FuncHead). h.start) head)
           (c.in_ok-hold_kept.ensures.size ∙ ap (λ (h : FuncHead). h.size) head)
           (c.in_ok-hold_kept.ensures.key ∙ ap (λ (h : FuncHead). h.key) head)
-          (c.in_ok-hold_kept.ensures.pieces ∙ ap (map piece_of_row) (c.rows-rows.ensures e));
+          (c.in_ok-hold_kept.ensures.ranges ∙ ap (map range_of_row) (c.rows-rows.ensures e));
       kept_passed = c.pass_kept-self.ensures.passed;
       omitted_passed = c.requires.omitted_passed;
     }

@@ -2,7 +2,7 @@ use Rattle.std.proofs.Common.{◌<◌, length, refl}
 use Rattle.sf_model.specs.declared.function.Func.{Func}
 use Rattle.sf_asm.proofs.RowAt.{some_of}
 use Rattle.sf_verify.specs.Asking.{says}
-use Rattle.sf_verify.proofs.Holding.{kept_alike}
+use Rattle.sf_verify.proofs.HolderContent.{kept_alike}
 use Rattle.sf_verify.proofs.dwarf_cursor.DwarfCursor.keeps.Goals as goal
 
 pub returns-clause-kept : goal.returns-clause-kept

@@ -1,6 +1,0 @@
-use Rattle.std.proofs.Common.{◌≡◌, take}
-use Rattle.frame_functions.specs.Heads.{left_of}
-use Rattle.frame_functions.proofs.entries.Entries.omitted.Given as goal
-
-abbrev pub invariant-loop-head : goal.invariant-loop-head
-invariant-loop-head l = l.omitted.items ≡ left_of (take l.head-index l.head-items)
