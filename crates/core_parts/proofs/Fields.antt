@@ -1,13 +1,9 @@
 -- Fields in the first bytes of a file, and in its program headers, are those of the file.
-use Rattle.std.specs.Prelude.{nat_lt}
 use Rattle.std.specs.List.{list_all, range_with_len}
-use Rattle.std.proofs.Common.{◌≡◌, ℕ, zero, suc, ◌+◌, ◌-◌, ◌*◌, ◌<◌, ◌≤◌, ◌==◌, min, Bool, true, cond, List, ◌∷◌, length, take, drop, map, refl, sym, ap, subst, ◌∙◌, arith, inl, inr}
-use Rattle.std.proofs.lemmas.Bool.{cases_lt, lt-ltb, le-ltb}
-use Rattle.std.proofs.lemmas.List.{length-take, drop-take}
-use Rattle.byteorder.specs.Endian.{little_number}
-use Rattle.byteorder.specs.Numbers.{little_from-take}
-use Rattle.elf_read.specs.Number.{front_number, field_at, has_flag, window}
-use Rattle.elf_read.specs.Header.{FileHeader, header_fields, p_type, p_vaddr, p_offset, p_filesz}
+use Rattle.std.proofs.Common.{◌≡◌, ℕ, zero, suc, ◌+◌, ◌*◌, ◌<◌, ◌≤◌, ◌==◌, Bool, true, cond, List, ◌∷◌, drop, map, refl, ap, subst, ◌∙◌, arith, inl, inr}
+use Rattle.std.proofs.lemmas.Bool.{cases_lt}
+use Rattle.elf_read.specs.Number.{field_at, has_flag, window}
+use Rattle.elf_read.specs.Header.{header_fields, p_type, p_vaddr, p_offset, p_filesz}
 use Rattle.elf_read.specs.SegmentFields.{p_flags, p_memsz}
 use Rattle.sf_lookup.specs.declared.span.Span.{Span}
 use Rattle.core_notes.specs.MemoryBytes.{load_span}
@@ -15,65 +11,12 @@ use Rattle.core_notes.specs.Segment.{SegmentView, segment_of}
 use Rattle.core_parts.specs.declared.segment.SegmentHead.{SegmentHead}
 use Rattle.core_parts.specs.Heads.{head_span, segment_in}
 use Rattle.core_parts.specs.Table.{head_at}
+use Rattle.elf_read.proofs.HeadersKept.{number_kept, fields_kept as front_kept}
 use Rattle.core_parts.proofs.PartReads.{both}
 
--- ---- a field in the first n bytes
-same_test : (w m len : ℕ) → w ≤ m → nat_lt (min m len) w ≡ nat_lt len w
-same_test w m len h = elim (cases_lt len w) [
-  | inl short ↦ lt-ltb _ _ (omega (arith, short, h)) ∙ sym (lt-ltb _ _ short)
-  | inr long ↦ le-ltb _ _ (omega (arith, long, h)) ∙ sym (le-ltb _ _ long)
-]
-
-front_kept : (w m : ℕ) (xs : List ℕ) → w ≤ m → front_number w (take m xs) ≡ front_number w xs
-unfolding front_number
-front_kept w m xs h =
-    ap (λ (n : ℕ). cond (nat_lt n w) 0 (little_number w (take m xs))) (length-take m xs)
-    ∙ ap (λ (b : Bool). cond b 0 (little_number w (take m xs))) (same_test w m (length xs) h)
-    ∙ ap (λ (n : ℕ). cond (nat_lt (length xs) w) 0 n) (little_from-take 0 w m xs (omega (arith, h)))
-
-number_kept : (w p n : ℕ) (xs : List ℕ) → p + w ≤ n → field_at w p (take n xs) ≡ field_at w p xs
-number_kept w p n xs h =
-    let all : n ≡ p + (n - p) = omega (arith, h) in
-    ap (λ (k : ℕ). front_number w (drop p (take k xs))) all
-    ∙ ap (front_number w) (drop-take p (n - p) xs)
-    ∙ front_kept w (n - p) (drop p xs) (omega (arith, h))
-
 -- ---- the file header
-abbrev fields_by : (ei_mag ei_class ei_data ei_version e_type e_machine e_version e_phoff e_shoff e_phentsize e_phnum e_shentsize e_shnum e_shstrndx : ℕ) → FileHeader
-fields_by ei_mag ei_class ei_data ei_version e_type e_machine e_version e_phoff e_shoff e_phentsize e_phnum e_shentsize e_shnum e_shstrndx = record {
-  ei_mag = ei_mag;
-  ei_class = ei_class;
-  ei_data = ei_data;
-  ei_version = ei_version;
-  e_type = e_type;
-  e_machine = e_machine;
-  e_version = e_version;
-  e_phoff = e_phoff;
-  e_shoff = e_shoff;
-  e_phentsize = e_phentsize;
-  e_phnum = e_phnum;
-  e_shentsize = e_shentsize;
-  e_shnum = e_shnum;
-  e_shstrndx = e_shstrndx;
-}
-
-same_fields : (a b c d e f g h i j k l m n a2 b2 c2 d2 e2 f2 g2 h2 i2 j2 k2 l2 m2 n2 : ℕ)
-    → a ≡ a2 → b ≡ b2 → c ≡ c2 → d ≡ d2 → e ≡ e2 → f ≡ f2 → g ≡ g2 → h ≡ h2 → i ≡ i2 → j ≡ j2 → k ≡ k2 → l ≡ l2 → m ≡ m2 → n ≡ n2
-    → fields_by a b c d e f g h i j k l m n ≡ fields_by a2 b2 c2 d2 e2 f2 g2 h2 i2 j2 k2 l2 m2 n2
-same_fields a b c d e f g h i j k l m n a2 b2 c2 d2 e2 f2 g2 h2 i2 j2 k2 l2 m2 n2 p1 p2 p3 p4 p5 p6 p7 p8 p9 p10 p11 p12 p13 p14 =
-    rw (p1, p2, p3, p4, p5, p6, p7, p8, p9, p10, p11, p12, p13, p14) refl
-
-fields_of_front : (file : List ℕ) → header_fields (window 0 64 file) ≡ header_fields file
-unfolding header_fields
-fields_of_front file =
-    same_fields _ _ _ _ _ _ _ _ _ _ _ _ _ _ _ _ _ _ _ _ _ _ _ _ _ _ _ _
-    (number_kept 4 0 64 file (omega arith)) (number_kept 1 4 64 file (omega arith)) (number_kept 1 5 64 file (omega arith)) (number_kept 1 6 64 file (omega arith))
-    (number_kept 2 16 64 file (omega arith)) (number_kept 2 18 64 file (omega arith)) (number_kept 4 20 64 file (omega arith)) (number_kept 8 32 64 file (omega arith))
-    (number_kept 8 40 64 file (omega arith)) (number_kept 2 54 64 file (omega arith)) (number_kept 2 56 64 file (omega arith)) (number_kept 2 58 64 file (omega arith))
-    (number_kept 2 60 64 file (omega arith)) (number_kept 2 62 64 file (omega arith))
-
 pub fields_kept : (file header : List ℕ) → header ≡ window 0 64 file → header_fields header ≡ header_fields file
-fields_kept file header is = ap header_fields is ∙ fields_of_front file
+fields_kept file header is = ap header_fields is ∙ front_kept file
 
 -- ---- the program headers
 abbrev view_by : List ℕ → (kind vaddr place size : ℕ) → SegmentView

@@ -30,7 +30,7 @@ front_kept w m xs h =
     ∙ ap (λ (n : ℕ). cond (nat_lt (length xs) w) 0 n) (little_from-take 0 w m xs (omega (arith, h)))
 
 -- a field in the first n bytes
-number_kept : (w p n : ℕ) (xs : List ℕ) → p + w ≤ n → field_at w p (take n xs) ≡ field_at w p xs
+pub number_kept : (w p n : ℕ) (xs : List ℕ) → p + w ≤ n → field_at w p (take n xs) ≡ field_at w p xs
 number_kept w p n xs h =
     let all : n ≡ p + (n - p) = omega (arith, h) in
     ap (λ (k : ℕ). front_number w (drop p (take k xs))) all
@@ -88,7 +88,7 @@ same_fields : (a b c d e f g h i j k l m n a2 b2 c2 d2 e2 f2 g2 h2 i2 j2 k2 l2 m
 same_fields a b c d e f g h i j k l m n a2 b2 c2 d2 e2 f2 g2 h2 i2 j2 k2 l2 m2 n2 p1 p2 p3 p4 p5 p6 p7 p8 p9 p10 p11 p12 p13 p14 =
     rw (p1, p2, p3, p4, p5, p6, p7, p8, p9, p10, p11, p12, p13, p14) refl
 
-fields_kept : (file : List ℕ) → header_fields (head_of file) ≡ header_fields file
+pub fields_kept : (file : List ℕ) → header_fields (window 0 64 file) ≡ header_fields file
 unfolding header_fields
 fields_kept file =
     same_fields _ _ _ _ _ _ _ _ _ _ _ _ _ _ _ _ _ _ _ _ _ _ _ _ _ _ _ _

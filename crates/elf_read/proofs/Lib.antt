@@ -6,6 +6,6 @@ pub mod ReadSizes
 pub mod Rules
 mod LeastCompressed
 mod Pieces
-mod HeadersKept
+pub mod HeadersKept
 mod LinkedSound
 mod OnlyEhFrame

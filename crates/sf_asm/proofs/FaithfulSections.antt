@@ -14,6 +14,7 @@ use Rattle.sf_write.specs.Section.{table_of}
 use Rattle.frame_functions.specs.declared.read_function.ReadFunction.{ReadFunction}
 use Rattle.sf_asm.specs.declared.fault.GatherFault.{GatherFault}
 use Rattle.sf_asm.specs.declared.fault.GatherFault.TheVariants as gather
+use Rattle.sf_asm.specs.declared.fault.LinkFault.{LinkFault}
 use Rattle.sf_asm.specs.declared.fault.LinkFault.TheVariants as link
 use Rattle.sf_asm.specs.Answers.{IsFirstGathered, IsFirstLinked, IsLinked}
 use Rattle.sf_asm.specs.Fault.{wraps_gathering}
@@ -105,12 +106,16 @@ pub not_reached : (before : Option Arch) (objects : List Object) (at : ℕ) (fun
 not_reached before objects at functions ordered start h kept_are far =
     to_links before objects at (Err (link.OutOfReach start)) (out_of_reach at (all_functions before objects) ordered start (subst (λ (fs : List Func). first_out_of_reach at 0 fs ≡ Some start) kept_are far) (from_gathers before objects (Ok ordered) h))
 
+-- what holds of out of memory, and of the fault as it is wrapped
+pub when_wrapped : (P : LinkFault → Type 0) (fault : GatherFault) → P link.NoMemory → P (link.Gather fault) → P (wraps_gathering fault)
+when_wrapped P gather.NoMemory none wrapped = none
+when_wrapped P gather.TooManyFunctions none wrapped = wrapped
+when_wrapped P gather.TooManyRows none wrapped = wrapped
+when_wrapped P (gather.Input item fault) none wrapped = wrapped
+when_wrapped P (gather.MixedArch one other) none wrapped = wrapped
+when_wrapped P (gather.Overlap s i t j) none wrapped = wrapped
+
 -- a fault of gathering is the first one of linking
 pub first_gathered : (before : Option Arch) (objects : List Object) (at : ℕ) (fault : GatherFault) → IsFirstGathered before objects fault → IsFirstLinked before objects at (wraps_gathering fault)
 first_gathered before objects at fault (inl none) = inl (ap wraps_gathering none)
-first_gathered before objects at gather.NoMemory (inr first) = inl refl
-first_gathered before objects at gather.TooManyFunctions (inr first) = inr (not_gathered before objects at gather.TooManyFunctions first)
-first_gathered before objects at gather.TooManyRows (inr first) = inr (not_gathered before objects at gather.TooManyRows first)
-first_gathered before objects at (gather.Input item fault) (inr first) = inr (not_gathered before objects at (gather.Input item fault) first)
-first_gathered before objects at (gather.MixedArch one other) (inr first) = inr (not_gathered before objects at (gather.MixedArch one other) first)
-first_gathered before objects at (gather.Overlap s i t j) (inr first) = inr (not_gathered before objects at (gather.Overlap s i t j) first)
+first_gathered before objects at fault (inr first) = when_wrapped (IsFirstLinked before objects at) fault (inl refl) (inr (not_gathered before objects at fault first))

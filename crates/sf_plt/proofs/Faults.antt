@@ -28,7 +28,6 @@ use Rattle.sf_functions.proofs.LimitsHeld as limits
 use Rattle.frame_functions.specs.declared.read_function.ReadFunction.{ReadFunction}
 use Rattle.frame_functions.specs.declared.read_function.Expressed.{Expressed}
 use Rattle.sf_asm.specs.declared.fault.GatherFault.{GatherFault}
-use Rattle.sf_asm.specs.declared.fault.GatherFault.TheVariants as gather
 use Rattle.sf_asm.specs.Answers.{IsFirstGathered}
 use Rattle.sf_asm.specs.declared.fault.LinkFault.{LinkFault}
 use Rattle.sf_asm.specs.declared.fault.LinkFault.TheVariants as link
@@ -51,6 +50,7 @@ use Rattle.sf_model.proofs.StableOrder.{one_order_of}
 use Rattle.sf_plt.specs.Answers.{IsFirstPltLinked, IsPltLinkedWith, others_in, plt_span}
 use Rattle.sf_plt.specs.Linking.{LinksPlts, LinksPltsFrom, further_fault, plt_link_fault, plts_fault, unless_fault}
 use Rattle.sf_asm.specs.Fault.{wraps_gathering, wraps_writing}
+use Rattle.sf_asm.proofs.FaithfulSections.{when_wrapped}
 use Rattle.sf_plt.specs.Plt.{is_plt, plt_functions}
 use Rattle.sf_plt.specs.Sorting.{func_start}
 use Rattle.sf_plt.specs.Written.{first_entry, later_entries, plt_pair, written_functions}
@@ -348,12 +348,7 @@ over_is (Some other) fault e = ap Some (let is : fault ≡ other = cc in sym is)
 -- a fault of gathering is the first one
 pub first_gathered : (before : Option Arch) (objects : List Object) (at : ℕ) (fault : GatherFault) → IsFirstGathered before objects fault → IsFirstPltLinked before objects at (wraps_gathering fault)
 first_gathered before objects at fault (inl none) = inl (ap wraps_gathering none)
-first_gathered before objects at gather.NoMemory (inr first) = inl refl
-first_gathered before objects at gather.TooManyFunctions (inr first) = inr (not_gathered before objects at gather.TooManyFunctions first)
-first_gathered before objects at gather.TooManyRows (inr first) = inr (not_gathered before objects at gather.TooManyRows first)
-first_gathered before objects at (gather.Input item fault) (inr first) = inr (not_gathered before objects at (gather.Input item fault) first)
-first_gathered before objects at (gather.MixedArch one other) (inr first) = inr (not_gathered before objects at (gather.MixedArch one other) first)
-first_gathered before objects at (gather.Overlap s i t j) (inr first) = inr (not_gathered before objects at (gather.Overlap s i t j) first)
+first_gathered before objects at fault (inr first) = when_wrapped (IsFirstPltLinked before objects at) fault (inl refl) (inr (not_gathered before objects at fault first))
 
 -- ---- what was counted and made
 pub tables_counted : (n : ℕ) (plts : List Span) (fs : List Function) → n ≡ length plts → plts ≡ map plt_span (filter is_plt fs) → n ≡ length (filter is_plt fs)

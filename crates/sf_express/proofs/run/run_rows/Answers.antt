@@ -1,4 +1,4 @@
-use Rattle.std.proofs.Common.{rules, arith}
+use Rattle.std.proofs.Common.{rules}
 use Rattle.cfa_machine.proofs.InstructionLoops.{row_follows, none_follows}
 use Rattle.sf_express.proofs.Running.{is_done, none_packed, omits, packs_on, says_same}
 use Rattle.sf_express.proofs.run.run_rows.Goals as goal
