@@ -24,7 +24,7 @@ use Rattle.cfa_machine.specs.RowAtOffset.{UnwindState, after_instruction, offset
 use Rattle.cfa_machine.specs.FirstFault.{or_later, unless_register, change_fault, define_fault, initial_fault, depth_after, run_fault, function_fault, first_fault, FailsBy}
 use Rattle.cfa_machine.proofs.Agrees.{ChangesTo, define_agrees, initial_agrees}
 use Rattle.cfa_machine.proofs.Counts.{IsCounted, depth_is, stays_counted}
-use Rattle.cfa_machine.proofs.Says.{Agrees, StepsAgree, step_agrees, no_columns_there}
+use Rattle.cfa_machine.proofs.RowsMatch.{Agrees, StepsAgree, step_agrees, no_columns_there}
 
 -- the fault of an answer
 abbrev pub fault_of : {X : Type 0} → Result X MachineFault → Option MachineFault

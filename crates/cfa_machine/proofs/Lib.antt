@@ -1,7 +1,7 @@
 pub mod InstructionLoops
 pub mod GoodRows
 pub mod Agrees
-pub mod Says
+pub mod RowsMatch
 pub mod Counts
 pub mod Faults
 pub mod Starts

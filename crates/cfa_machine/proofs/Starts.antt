@@ -16,7 +16,7 @@ use Rattle.cfa_machine.specs.Pass.{◌>>=◌, State, initial_columns, step, with
 use Rattle.cfa_machine.specs.FullRow.{FullRow, no_row, columns_of}
 use Rattle.cfa_machine.specs.RowAtOffset.{UnwindState, after_instruction, offset_behind, initial_by, reaches, has_start, StartWhereReached}
 use Rattle.cfa_machine.proofs.Agrees.{ChangesTo, initial_agrees}
-use Rattle.cfa_machine.proofs.Says.{Agrees, StepsAgree, step_agrees, no_columns_there}
+use Rattle.cfa_machine.proofs.RowsMatch.{Agrees, StepsAgree, step_agrees, no_columns_there}
 
 not_equal : (n o : ℕ) → o < n → (n == o) ≡ false
 not_equal n o lt = ne_eqb n o (λ e. omega arith)

@@ -72,13 +72,13 @@ latest_at o found [] = found
 latest_at o found (r ∷ rows) = latest_at o (if nat_le r.start o then Some r else found) rows
 
 -- the row that was found has the columns of a full row
-pub record SaysAt (arch : Arch) (row : FullRow) (found : Option DwRow) : Type 0 where
+pub record HasColumns (arch : Arch) (row : FullRow) (found : Option DwRow) : Type 0 where
   pub start : ℕ
   pub is : found ≡ Some (row_from start (columns_of arch row))
 
 -- at each offset below the size the rows are what the instructions give there
-abbrev pub SayAll : Arch → (code : ℕ) (f : ℤ) (size : ℕ) (cie fde : List Item) → List DwRow → Type 0
-SayAll arch code f size cie fde rows = (o : ℕ) → o < size → SaysAt arch (row_at_offset code f cie fde o) (latest_at o None rows)
+abbrev pub MatchInstructions : Arch → (code : ℕ) (f : ℤ) (size : ℕ) (cie fde : List Item) → List DwRow → Type 0
+MatchInstructions arch code f size cie fde rows = (o : ℕ) → o < size → HasColumns arch (row_at_offset code f cie fde o) (latest_at o None rows)
 
 -- ---- where rows start
 -- whether the offset is o before some instruction or at the end: 0 is, and each that an advance arrives at

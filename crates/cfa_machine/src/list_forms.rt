@@ -4,7 +4,7 @@ ghost use Rattle.std.specs.Prelude.{◌≡◌, IfOk};
 ghost use Rattle.sf_bytes.specs.Cursor.{cursor};
 ghost use Rattle.cfa_insn.specs.Listing.{listing};
 ghost use Rattle.cfa_machine.specs.Columns.{row_from};
-ghost use Rattle.cfa_machine.specs.RowAtOffset.{SayAll, StartWhereReached};
+ghost use Rattle.cfa_machine.specs.RowAtOffset.{MatchInstructions, StartWhereReached};
 ghost use Rattle.cfa_machine.specs.FirstFault.{FailsBy, first_fault};
 ghost use Rattle.cfa_machine.specs.RowList.{AreRows};
 ghost use Rattle.cfa_machine.specs.Pass.{Gives, rows_by};
@@ -97,7 +97,7 @@ pub fn rows(
     // The rows rise from 0 on, below the size.
     ensures rows { IfOk result (λ v. AreRows arch size v.items) }
     // At each offset below the size the rows are what the instructions give there.
-    ensures at { IfOk result (λ v. SayAll arch code_alignment_factor data_alignment_factor size (listing (cursor cie.entry)) (listing (cursor fde.entry)) v.items) }
+    ensures at { IfOk result (λ v. MatchInstructions arch code_alignment_factor data_alignment_factor size (listing (cursor cie.entry)) (listing (cursor fde.entry)) v.items) }
     // A row starts at each offset below the size that is 0 or that an advance arrives at, and at no other.
     ensures starts { IfOk result (λ v. StartWhereReached code_alignment_factor data_alignment_factor size (listing (cursor fde.entry)) v.items) }
     // It names the first instruction that can't be read or run.

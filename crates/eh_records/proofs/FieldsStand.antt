@@ -341,12 +341,12 @@ letter_values_read (b ∷ letters) (s ∷ values) augmentation at h =
     ap (λ (r : Step AugmentationView). r >>= λ next. augmentation_by letters next.0 next.1) (letter_value_read b s augmentation at h.0 h.1)
     ∙ letter_values_read letters values (with_letter_value augmentation s) h.0 h.2
 
-record SayAll (letters : List ℕ) (augmentation : AugmentationView) (at : Cursor) (result : AugmentationView) : Type 0 where
+record MatchInstructions (letters : List ℕ) (augmentation : AugmentationView) (at : Cursor) (result : AugmentationView) : Type 0 where
   values : List LetterValue
   stand : LetterValuesStand letters values at
   is : result ≡ with_letter_values augmentation values
 
-letter_values_stand : (arch : Arch) (letters : List ℕ) (augmentation : AugmentationView) (at : Cursor) (result : AugmentationView) → AreKnown arch letters → augmentation_by letters augmentation at ≡ Ok result → SayAll letters augmentation at result
+letter_values_stand : (arch : Arch) (letters : List ℕ) (augmentation : AugmentationView) (at : Cursor) (result : AugmentationView) → AreKnown arch letters → augmentation_by letters augmentation at ≡ Ok result → MatchInstructions letters augmentation at result
 unfolding augmentation_by
 letter_values_stand arch [] augmentation at result known e = record { values = []; stand = tt; is = sym (ok_same augmentation result e) }
 letter_values_stand arch (b ∷ letters) augmentation at result known e =

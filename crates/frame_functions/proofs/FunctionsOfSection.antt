@@ -3,7 +3,7 @@ use Rattle.std.proofs.Common.{◌≡◌, ℕ, ◌+◌, ◌<◌, length, drop, ge
 use Rattle.std.proofs.lemmas.List.{append-nil, drop_more}
 use Rattle.sf_model.specs.declared.machine.Arch.{Arch}
 use Rattle.cfa_machine.specs.declared.row.DwRow.{DwRow}
-use Rattle.cfa_machine.specs.RowAtOffset.{SayAll}
+use Rattle.cfa_machine.specs.RowAtOffset.{MatchInstructions}
 use Rattle.cfa_machine.specs.Columns.{row_from}
 use Rattle.cfa_machine.specs.FullRow.{columns_of}
 use Rattle.cfa_machine.specs.declared.columns.Columns.{Columns}
@@ -13,8 +13,8 @@ use Rattle.eh_records.specs.Section.{EntryView, entries_of, frames, pointer_fiel
 use Rattle.elf_reloc.specs.declared.fault.RelocFault.{RelocFault}
 use Rattle.elf_reloc.specs.declared.fix.RelocatedField.{RelocatedField}
 use Rattle.sf_express.specs.Rules.{content_of}
-use Rattle.sf_express.specs.Offsets.{said}
-use Rattle.sf_express.specs.Runs.{AreSaid, function_of}
+use Rattle.sf_express.specs.Offsets.{content_or_reason}
+use Rattle.sf_express.specs.Runs.{AreContentsOf, function_of}
 use Rattle.frame_functions.specs.declared.read_function.Expressed.{Expressed}
 use Rattle.frame_functions.specs.declared.fault.AsmFault.{AsmFault}
 use Rattle.frame_functions.specs.declared.fault.AsmFault.TheVariants as asm
@@ -25,7 +25,7 @@ use Rattle.sf_bytes.specs.Steps.{◌>>=◌, named}
 use Rattle.sf_model.specs.Firsts.{unless}
 use Rattle.frame_functions.specs.Functions.{Function, span_in, fault_in, function_at, function_in, functions_in, section_functions, sections_functions}
 use Rattle.frame_functions.specs.Relocated.{Values, on_pointers, patched_values, pointer_check}
-use Rattle.frame_functions.specs.Kept.{full_row, says_of, facts_of, outcome_by, read_of}
+use Rattle.frame_functions.specs.Kept.{full_row, row_contents, facts_of, outcome_by, read_of}
 use Rattle.frame_functions.specs.ReadSoFar.{ReadsAll}
 use Rattle.frame_functions.proofs.ReadSoFar.{GoesOn, goes_on, then_others}
 
@@ -35,13 +35,13 @@ content_anywhere : (arch : Arch) (a b : ℕ) (columns : Columns) → content_of 
 unfolding content_of
 content_anywhere arch a b columns = refl
 
-pub are_said : (f : Function) (rows : List DwRow) → SayAll f.arch f.code f.factor f.size f.initial f.own rows → AreSaid f.arch f.size rows (says_of f)
+pub are_said : (f : Function) (rows : List DwRow) → MatchInstructions f.arch f.code f.factor f.size f.initial f.own rows → AreContentsOf f.arch f.size rows (row_contents f)
 are_said f rows h = λ o lt.
     let there = h o lt in
-    ap (said f.arch) there.is ∙ ap Some (content_anywhere f.arch there.start o (columns_of f.arch (full_row f o)))
+    ap (content_or_reason f.arch) there.is ∙ ap Some (content_anywhere f.arch there.start o (columns_of f.arch (full_row f o)))
 
 pub reads_function : (arch : Arch) (item : ℕ) (section : CallFrames) (values : Values) (f : FdeView) (span : ℕ × ℕ) (outcome : Expressed) → Ok span ≡ named (asm.Record section.number) (span_in section values f) → fault_in arch f ≡ None
-    → outcome ≡ outcome_by (function_of arch (facts_of (function_at arch item section f span)) (says_of (function_at arch item section f span)))
+    → outcome ≡ outcome_by (function_of arch (facts_of (function_at arch item section f span)) (row_contents (function_at arch item section f span)))
     → seen_as read_of (function_in arch item section values f) ≡ Ok (record { span = record { start = span.0; size = span.1; origin = record { item = item; section = section.number; place = f.place } }; outcome = outcome })
 unfolding function_in
 reads_function arch item section values f span outcome p q r =

@@ -8,17 +8,17 @@ use Rattle.frame_functions.specs.declared.read_function.ReadFunction.{ReadFuncti
 use Rattle.frame_functions.specs.declared.fault.AsmFault.{AsmFault}
 use Rattle.frame_functions.specs.Answers.{seen_as}
 use Rattle.frame_functions.specs.Functions.{Function}
-use Rattle.frame_functions.specs.Kept.{read_of, facts_of, is_kept, omitted_functions, outcome_by, says_of}
+use Rattle.frame_functions.specs.Kept.{read_of, facts_of, is_kept, omitted_functions, outcome_by, row_contents}
 use Rattle.frame_functions.specs.Descriptions.{if_left}
 
 -- ---- one function
-by_omission : (f : Function) (omission : Option Omission) → if_left (outcome_by (unless_omitted omission (expressed (facts_of f) (says_of f)))) f ≡ cond (not (is_none omission)) (f ∷ []) []
+by_omission : (f : Function) (omission : Option Omission) → if_left (outcome_by (unless_omitted omission (expressed (facts_of f) (row_contents f)))) f ≡ cond (not (is_none omission)) (f ∷ []) []
 by_omission f None = refl
 by_omission f (Some omission) = refl
 
 left_is : (f : Function) → if_left (read_of f).outcome f ≡ omitted_functions (f ∷ [])
 unfolding function_of
-left_is f = by_omission f (omission_of f.arch (facts_of f) (says_of f))
+left_is f = by_omission f (omission_of f.arch (facts_of f) (row_contents f))
 
 -- one function more
 pub one_omitted : (before : List Function) (f : Function) (entry : ReadFunction) → read_of f ≡ entry → omitted_functions (before ++ f ∷ []) ≡ omitted_functions before ++ if_left entry.outcome f

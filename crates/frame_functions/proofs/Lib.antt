@@ -8,4 +8,4 @@ pub mod Patching
 pub mod MadeRows
 pub mod Lending
 pub mod CommonParts
-pub mod SaidRanges
+pub mod RangesOfInstructions

@@ -19,12 +19,12 @@ use Rattle.sf_decode.specs.View.{head_of}
 use Rattle.sf_write.specs.declared.packed.PackedRows.{PackedRows}
 use Rattle.sf_write.specs.Packed.{ArePacked, IsPacked}
 use Rattle.cfa_machine.proofs.GoodRows.{AreRowsIfOk, rows_by-are_rows}
-use Rattle.cfa_machine.proofs.Says.{SaysAllIfOk, rows_by-say}
+use Rattle.cfa_machine.proofs.RowsMatch.{MatchIfOk, rows_by-say}
 use Rattle.cfa_machine.proofs.Faults.{fault_of, rows_by-fault}
 use Rattle.sf_express.specs.declared.list_forms.ExpressFault.TheVariants.{Omit}
 use Rattle.sf_express.specs.Expressed.{expressed_rows, function_by, reason_of, with_rows}
 use Rattle.sf_express.specs.Run.{on_rows}
-use Rattle.sf_express.specs.Runs.{AreSaid, function_of}
+use Rattle.sf_express.specs.Runs.{AreContentsOf, function_of}
 use Rattle.sf_express.proofs.ByOffsets.{answer_means}
 use Rattle.sf_express.proofs.Omitted.{answer_omits}
 use Rattle.sf_express.proofs.Writable.{FunctionFits, function_by-fits, rows_of_kept}
@@ -36,7 +36,7 @@ use Rattle.frame_functions.specs.ReadFunction.{IsSoundOutcome}
 use Rattle.sf_bytes.specs.Steps.{named}
 use Rattle.sf_model.specs.Firsts.{unless}
 use Rattle.frame_functions.specs.Functions.{Function}
-use Rattle.frame_functions.specs.Kept.{says_of, facts_of, outcome_by}
+use Rattle.frame_functions.specs.Kept.{row_contents, facts_of, outcome_by}
 use Rattle.frame_functions.proofs.FunctionsOfSection.{are_said}
 
 -- the rows of a function, or the fault of its first instruction that can't be run
@@ -47,17 +47,17 @@ abbrev pub made_of : Function → Result (List DwRow) MachineFault → Result Ex
 made_of f given = on_rows (λ rows. outcome_by (function_by f.arch (facts_of f) rows)) given
 
 -- ---- what becomes of it
-meant : (f : Function) (rows : List DwRow) (x : Result Func Omission) → AreRowsIfOk f.arch f.size (Ok rows) → AreSaid f.arch f.size rows (says_of f) → function_by f.arch (facts_of f) rows ≡ x → function_of f.arch (facts_of f) (says_of f) ≡ x
-meant f rows (Ok g) h are e = answer_means f.arch (facts_of f) rows (Ok g) h e (answer_omits f.arch (facts_of f) rows (Ok g) h e) (says_of f) are
-meant f rows (Err omission) h are e = answer_means f.arch (facts_of f) rows (Err (Omit omission)) h e (answer_omits f.arch (facts_of f) rows (Err (Omit omission)) h e) (says_of f) are
+meant : (f : Function) (rows : List DwRow) (x : Result Func Omission) → AreRowsIfOk f.arch f.size (Ok rows) → AreContentsOf f.arch f.size rows (row_contents f) → function_by f.arch (facts_of f) rows ≡ x → function_of f.arch (facts_of f) (row_contents f) ≡ x
+meant f rows (Ok g) h are e = answer_means f.arch (facts_of f) rows (Ok g) h e (answer_omits f.arch (facts_of f) rows (Ok g) h e) (row_contents f) are
+meant f rows (Err omission) h are e = answer_means f.arch (facts_of f) rows (Err (Omit omission)) h e (answer_omits f.arch (facts_of f) rows (Err (Omit omission)) h e) (row_contents f) are
 
-means_by : (f : Function) (given : Result (List DwRow) MachineFault) (outcome : Expressed) → AreRowsIfOk f.arch f.size given → SaysAllIfOk f.arch f.code f.factor f.size f.initial f.own given → made_of f given ≡ Ok outcome → outcome ≡ outcome_by (function_of f.arch (facts_of f) (says_of f))
+means_by : (f : Function) (given : Result (List DwRow) MachineFault) (outcome : Expressed) → AreRowsIfOk f.arch f.size given → MatchIfOk f.arch f.code f.factor f.size f.initial f.own given → made_of f given ≡ Ok outcome → outcome ≡ outcome_by (function_of f.arch (facts_of f) (row_contents f))
 means_by f (Ok rows) outcome h say e =
     let is : outcome_by (function_by f.arch (facts_of f) rows) ≡ outcome = cc in
     sym is ∙ ap outcome_by (sym (meant f rows (function_by f.arch (facts_of f) rows) h (are_said f rows say) refl))
 means_by f (Err e') outcome h say e = absurd cc
 
-pub outcome_means : (f : Function) (outcome : Expressed) → f.size < 2 ^ 64 → made_of f (rows_of f) ≡ Ok outcome → outcome ≡ outcome_by (function_of f.arch (facts_of f) (says_of f))
+pub outcome_means : (f : Function) (outcome : Expressed) → f.size < 2 ^ 64 → made_of f (rows_of f) ≡ Ok outcome → outcome ≡ outcome_by (function_of f.arch (facts_of f) (row_contents f))
 outcome_means f outcome small e = means_by f (rows_of f) outcome (rows_by-are_rows _ _ _ _ _ _) (rows_by-say _ _ _ _ _ _ small) e
 
 -- ---- faults

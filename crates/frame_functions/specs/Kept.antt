@@ -9,7 +9,7 @@ use Rattle.cfa_machine.specs.RowAtOffset.{row_at_offset}
 use Rattle.cfa_machine.specs.Columns.{row_from}
 use Rattle.cfa_machine.specs.FullRow.{FullRow, columns_of}
 use Rattle.sf_express.specs.Rules.{content_of}
-use Rattle.sf_express.specs.Runs.{Saying, omission_of, function_of}
+use Rattle.sf_express.specs.Runs.{ContentsByOffset, omission_of, function_of}
 use Rattle.frame_functions.specs.declared.read_function.ReadFunction.{ReadFunction}
 use Rattle.frame_functions.specs.declared.read_function.Expressed.{Expressed}
 use Rattle.frame_functions.specs.declared.read_function.Expressed.TheVariants as outcome
@@ -20,8 +20,8 @@ abbrev pub full_row : Function → (offset : ℕ) → FullRow
 full_row f offset = row_at_offset f.code f.factor f.initial f.own offset
 
 -- its content in SFrame, or the first reason against the row
-abbrev pub says_of : Function → Saying
-says_of f offset = content_of f.arch (row_from offset (columns_of f.arch (full_row f offset)))
+abbrev pub row_contents : Function → ContentsByOffset
+row_contents f offset = content_of f.arch (row_from offset (columns_of f.arch (full_row f offset)))
 
 -- what the records describe of it, apart from its instructions
 abbrev pub facts_of : Function → FdeFacts
@@ -36,12 +36,12 @@ outcome_by (Err omission) = outcome.LeftOut omission
 abbrev pub read_of : Function → ReadFunction
 read_of f = record {
   span = record { start = f.start; size = f.size; origin = f.origin };
-  outcome = outcome_by (function_of f.arch (facts_of f) (says_of f));
+  outcome = outcome_by (function_of f.arch (facts_of f) (row_contents f));
 }
 
 -- there is no reason against the function
 abbrev pub is_kept : Function → Bool
-is_kept f = is_none (omission_of f.arch (facts_of f) (says_of f))
+is_kept f = is_none (omission_of f.arch (facts_of f) (row_contents f))
 
 -- the functions that a section of these functions has
 abbrev pub kept_functions : List Function → List Function

@@ -5,8 +5,8 @@ ghost use Rattle.sf_bytes.specs.Cursor.{cursor};
 ghost use Rattle.cfa_insn.specs.Listing.{listing};
 ghost use Rattle.cfa_machine.specs.Left.{rows_left};
 ghost use Rattle.cfa_machine.specs.Pass.{rows_by};
-ghost use Rattle.sf_express.specs.ContentRanges.{AreSaidBy, content_in};
-ghost use Rattle.frame_functions.specs.Kept.{says_of};
+ghost use Rattle.sf_express.specs.ContentRanges.{AreRangesOf, content_in};
+ghost use Rattle.frame_functions.specs.Kept.{row_contents};
 ghost use Rattle.frame_functions.specs.ContentAt.{AllFit, form_content, has_form};
 ghost use Rattle.frame_functions.specs.Descriptions.{described_function};
 
@@ -47,7 +47,7 @@ fn ranges_of<'a>(
     run: &mut Runner<'a>,
 ) -> Result<Vec<ContentRange>, NoMemory>
     requires { 0 < description.now.facts.size }
-    ensures said { IfOk result (λ ranges. AreSaidBy description.now.facts.size (λ offset. content_in (says_of (described_function description.now) offset)) ranges.items) }
+    ensures said { IfOk result (λ ranges. AreRangesOf description.now.facts.size (λ offset. content_in (row_contents (described_function description.now) offset)) ranges.items) }
     ensures fits { IfOk result (λ ranges. AllFit description.now.arch ranges.items) }
 {
     begin(description, run);
@@ -78,7 +78,7 @@ pub fn content_ranges<'a>(
     run: &mut Runner<'a>,
 ) -> Result<Vec<ContentRange>, NoMemory>
     requires { 0 < description.now.facts.size }
-    ensures said { IfOk result (λ ranges. AreSaidBy description.now.facts.size (form_content (described_function description.now)) ranges.items) }
+    ensures said { IfOk result (λ ranges. AreRangesOf description.now.facts.size (form_content (described_function description.now)) ranges.items) }
     ensures fits { IfOk result (λ ranges. AllFit description.now.arch ranges.items) }
 {
     if has_sframe_form(description) {

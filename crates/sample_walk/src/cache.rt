@@ -48,7 +48,7 @@ fn is_fp(base: Base) -> bool
 }
 
 // Returns what an entry says.
-fn said_by(entry: &CacheEntry) -> Located
+fn content_by(entry: &CacheEntry) -> Located
     ensures { result ≡ spec.entry_located entry.now }
 {
     let base = if entry.counts_from_fp {
@@ -131,7 +131,7 @@ pub fn locate<L: Modules>(modules: &L, cache: &mut [CacheEntry], address: u64) -
     let slot = slot_of(address, cache.len());
     let entry = cache[slot];
     if entry.is_used && entry.address == address {
-        return said_by(&entry);
+        return content_by(&entry);
     }
     let found = modules.find(address);
     cache[slot] = entry_of(address, &found);

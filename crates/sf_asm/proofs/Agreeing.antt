@@ -17,7 +17,7 @@ use Rattle.sf_model.specs.declared.omission.Omission.{Omission}
 use Rattle.sf_model.specs.declared.omission.Reason.{Reason}
 use Rattle.cfa_machine.specs.Recovery.{recovery_by_rules}
 use Rattle.cfa_machine.specs.Registers.{return_address}
-use Rattle.sf_express.specs.Offsets.{as_said}
+use Rattle.sf_express.specs.Offsets.{without_reason}
 use Rattle.sf_express.specs.Alike.{defined}
 use Rattle.sf_express.specs.Runs.{omission_of, rows_of, expressed, unless_omitted, function_of}
 use Rattle.sf_express.proofs.Found.{SaysContent, row_said}
@@ -28,7 +28,7 @@ use Rattle.frame_functions.specs.declared.read_function.Expressed.{Expressed}
 use Rattle.frame_functions.specs.declared.read_function.Expressed.TheVariants as outcome
 use Rattle.frame_functions.specs.ReadFunction.{kept_in, kept_of, spans_of}
 use Rattle.frame_functions.specs.Functions.{Function, holds_address}
-use Rattle.frame_functions.specs.Kept.{full_row, says_of, facts_of, outcome_by, read_of, is_kept, kept_functions}
+use Rattle.frame_functions.specs.Kept.{full_row, row_contents, facts_of, outcome_by, read_of, is_kept, kept_functions}
 use Rattle.frame_functions.specs.Order.{InOrder, are_apart}
 use Rattle.sf_asm.specs.Linking.{overlap_in}
 use Rattle.sf_asm.specs.Faithful.{recovered_in, recovered_at}
@@ -39,19 +39,19 @@ use Rattle.sf_asm.proofs.Kept.{not_overlapping_apart}
 
 -- ---- the kept function at an address, among the functions
 abbrev pub expressed_of : Function → Func
-expressed_of f = expressed (facts_of f) (says_of f)
+expressed_of f = expressed (facts_of f) (row_contents f)
 
 pub find_kept : (pc : ℕ) (fs : List Function) → find (contains pc) (kept_of (map read_of fs)) ≡ option_map expressed_of (find (holds_address pc) (kept_functions fs))
 unfolding function_of
 find_kept pc [] = refl
-find_kept pc (f ∷ fs) = at_omission (omission_of f.arch (facts_of f) (says_of f)) refl (find_kept pc fs)
+find_kept pc (f ∷ fs) = at_omission (omission_of f.arch (facts_of f) (row_contents f)) refl (find_kept pc fs)
   where
     at_address : (b : Bool) → holds_address pc f ≡ b → find (contains pc) (kept_of (map read_of fs)) ≡ option_map expressed_of (find (holds_address pc) (kept_functions fs))
         → find (contains pc) (expressed_of f ∷ kept_of (map read_of fs)) ≡ option_map expressed_of (find (holds_address pc) (f ∷ kept_functions fs))
     at_address true t others = rw t refl
     at_address false t others = rw t others
 
-    at_omission : (omission : Option Omission) → omission_of f.arch (facts_of f) (says_of f) ≡ omission → find (contains pc) (kept_of (map read_of fs)) ≡ option_map expressed_of (find (holds_address pc) (kept_functions fs))
+    at_omission : (omission : Option Omission) → omission_of f.arch (facts_of f) (row_contents f) ≡ omission → find (contains pc) (kept_of (map read_of fs)) ≡ option_map expressed_of (find (holds_address pc) (kept_functions fs))
         → find (contains pc) (kept_of (map read_of (f ∷ fs))) ≡ option_map expressed_of (find (holds_address pc) (kept_functions (f ∷ fs)))
     at_omission None e others = rw e (at_address (holds_address pc f) refl others)
     at_omission (Some omission) e others = rw e others
@@ -100,7 +100,7 @@ outcome_spanned f (Some omission) = tt
 all_spanned : (fs : List Function) → AllByRecursion IsSpanned (map read_of fs)
 unfolding function_of
 all_spanned [] = tt
-all_spanned (f ∷ fs) = (outcome_spanned f (omission_of f.arch (facts_of f) (says_of f)), all_spanned fs)
+all_spanned (f ∷ fs) = (outcome_spanned f (omission_of f.arch (facts_of f) (row_contents f)), all_spanned fs)
 
 there_within : (pc : ℕ) (o : Expressed) (start size : ℕ) → HasSpan o start size → kept_there pc o ≡ true → IsWithin pc start size
 there_within pc (outcome.Kept f) start size h t = rw (sym h.0, sym h.1) (within_span pc f.start f.size t)
@@ -126,7 +126,7 @@ find_in_order pc fs ordered order apart =
 
 -- ---- one function
 -- what a row that is found recovers
-recovered_row : (f : Function) (o : ℕ) (found : Option Row) (said : Result Content Reason) (regs : Regs) (memory : List Region) → f.column ≡ return_address f.arch → says_of f o ≡ said → SaysContent said → as_said (option_map (λ (r : Row). r.content) found) ≡ Some said
+recovered_row : (f : Function) (o : ℕ) (found : Option Row) (said : Result Content Reason) (regs : Regs) (memory : List Region) → f.column ≡ return_address f.arch → row_contents f o ≡ said → SaysContent said → without_reason (option_map (λ (r : Row). r.content) found) ≡ Some said
     → option_map defined (option_map (λ (x : FoundRow). recovery x.row.content x.func.key regs memory) (option_map (λ (row : Row). record { func = expressed_of f; row = row }) found))
     ≡ Some (recovery_by_rules f.arch f.column (full_row f o) f.key regs memory)
 recovered_row f o None said regs memory own e fine h = cc
@@ -143,7 +143,7 @@ function_recovers f pc regs memory kept holds =
     let w = within pc f holds in
     let lt : pc - f.start < f.size = omega (arith, w.from, w.to) in
     let h = fine f kept in
-    recovered_row f (pc - f.start) (row_at (pc - f.start) (rows_of (says_of f) f.size)) (says_of f (pc - f.start)) regs memory (own_column f.arch (facts_of f) h.whole) refl (h.rows (pc - f.start) lt) (row_said (says_of f) f.size h.rows (pc - f.start) lt)
+    recovered_row f (pc - f.start) (row_at (pc - f.start) (rows_of (row_contents f) f.size)) (row_contents f (pc - f.start)) regs memory (own_column f.arch (facts_of f) h.whole) refl (h.rows (pc - f.start) lt) (row_said (row_contents f) f.size h.rows (pc - f.start) lt)
 
 -- what passes a search
 pub found_passes : (p q : Function → Bool) (fs : List Function) (f : Function) → find p (filter q fs) ≡ Some f → (p f ≡ true) × (q f ≡ true)

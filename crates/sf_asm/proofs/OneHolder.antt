@@ -13,9 +13,9 @@ use Rattle.sf_model.specs.declared.omission.Reason.TheVariants.{EmptyRange, Size
 use Rattle.sf_model.specs.declared.omission.Span.{Span}
 use Rattle.cfa_machine.specs.Registers.{return_address}
 use Rattle.sf_express.specs.Expressed.{reason_of}
-use Rattle.sf_express.specs.ContentRanges.{AreSaidBy, content_in, range_of_row}
+use Rattle.sf_express.specs.ContentRanges.{AreRangesOf, content_in, range_of_row}
 use Rattle.sf_express.specs.Runs as runs
-use Rattle.sf_express.specs.Runs.{Saying, against, first_against, omission_of, rows_of, whole_or_row}
+use Rattle.sf_express.specs.Runs.{ContentsByOffset, against, first_against, omission_of, rows_of, whole_or_row}
 use Rattle.sf_express.proofs.AsRanges.{rows_said_by}
 use Rattle.sf_express.proofs.Found.{SaysContent}
 use Rattle.frame_functions.specs.declared.read_function.ReadFunction.{ReadFunction}
@@ -23,7 +23,7 @@ use Rattle.sf_asm.specs.declared.fault.GatherFault.{GatherFault}
 use Rattle.frame_functions.specs.ReadFunction.{spans_of}
 use Rattle.frame_functions.specs.Functions.{holds_address, Function}
 use Rattle.sf_asm.specs.Functions.{Object}
-use Rattle.frame_functions.specs.Kept.{read_of, facts_of, is_kept, says_of}
+use Rattle.frame_functions.specs.Kept.{read_of, facts_of, is_kept, row_contents}
 use Rattle.sf_asm.specs.Linking.{Gathers, limits_fault, or_later, overlap_fault, overlap_in}
 use Rattle.frame_functions.specs.Order.{are_apart}
 use Rattle.frame_functions.specs.ContentAt.{form_content, has_form}
@@ -114,7 +114,7 @@ fine_first : (o : ℕ) (x : Result Content Reason) (later : Option Omission) →
 fine_first o (Ok c) later e = (tt, e)
 fine_first o (Err reason) later e = cc
 
-all_fine : (says : Saying) (a n : ℕ) → first_against says (range_with_len a n) ≡ None → (o : ℕ) → a ≤ o → o < a + n → SaysContent (says o)
+all_fine : (says : ContentsByOffset) (a n : ℕ) → first_against says (range_with_len a n) ≡ None → (o : ℕ) → a ≤ o → o < a + n → SaysContent (says o)
 all_fine says a zero e o le lt = absurd (omega (arith, le, lt))
 all_fine says a (suc n) e o le lt =
     let first = fine_first a (says a) (first_against says (range_with_len (a + 1) n)) e in
@@ -133,14 +133,14 @@ none_is (Some omission) e = cc
 
 pub record IsFine (f : Function) : Type 0 where
   pub whole : reason_of f.arch (facts_of f) ≡ None
-  pub rows : (o : ℕ) → o < f.size → SaysContent (says_of f o)
+  pub rows : (o : ℕ) → o < f.size → SaysContent (row_contents f o)
 
 pub fine : (f : Function) → is_kept f ≡ true → IsFine f
 unfolding omission_of
 fine f kept =
-    let none = none_is (omission_of f.arch (facts_of f) (says_of f)) kept in
-    let two = no_reason (reason_of f.arch (facts_of f)) (first_against (says_of f) (range_with_len 0 f.size)) none in
-    record { whole = two.0; rows = λ o lt. all_fine (says_of f) 0 f.size two.1 o (omega arith) (omega (arith, lt)) }
+    let none = none_is (omission_of f.arch (facts_of f) (row_contents f)) kept in
+    let two = no_reason (reason_of f.arch (facts_of f)) (first_against (row_contents f) (range_with_len 0 f.size)) none in
+    record { whole = two.0; rows = λ o lt. all_fine (row_contents f) 0 f.size two.1 o (omega arith) (omega (arith, lt)) }
 
 form_by : (empty large column signal : Bool) → cond empty (Some EmptyRange) (cond large (Some SizeTooLarge) (cond column (cond signal (Some SignalFrame) None) (Some ReturnColumn))) ≡ None → (column && not signal) ≡ true
 form_by true large column signal e = cc
@@ -163,10 +163,10 @@ kept_size f k =
     grind (arith, nat_tests)
 
 -- what it says by its rows as ranges
-pub kept_said_by : (f : Function) → is_kept f ≡ true → AreSaidBy f.size (form_content f) (map range_of_row (rows_of (says_of f) f.size))
+pub kept_said_by : (f : Function) → is_kept f ≡ true → AreRangesOf f.size (form_content f) (map range_of_row (rows_of (row_contents f) f.size))
 kept_said_by f k =
     let good = fine f k in
-    subst (λ (b : Bool). AreSaidBy f.size (λ o. cond b (content_in (says_of f o)) None) (map range_of_row (rows_of (says_of f) f.size))) (sym (has_form_if f good.whole)) (rows_said_by (says_of f) f.size (kept_size f k) good.rows)
+    subst (λ (b : Bool). AreRangesOf f.size (λ o. cond b (content_in (row_contents f o)) None) (map range_of_row (rows_of (row_contents f) f.size))) (sym (has_form_if f good.whole)) (rows_said_by (row_contents f) f.size (kept_size f k) good.rows)
 
 -- ---- gathered functions
 no_overlap : (limits : Option GatherFault) (pair : Option (Span × Span)) → or_later limits (option_map overlap_fault pair) ≡ None → pair ≡ None

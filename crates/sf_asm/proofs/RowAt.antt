@@ -14,14 +14,14 @@ use Rattle.sf_model.specs.declared.omission.Omitted.{Omitted}
 use Rattle.sf_model.specs.Function.{IsWritable}
 use Rattle.sf_model.specs.Lookup.{contains}
 use Rattle.sf_express.specs.declared.content_ranges.ContentRange.{ContentRange}
-use Rattle.sf_express.specs.ContentRanges.{AreRanges, AreSaidBy, RangesDiffer, range_of_row, said_by}
+use Rattle.sf_express.specs.ContentRanges.{AreRanges, AreRangesOf, RangesDiffer, range_of_row, content_by}
 use Rattle.sf_asm.specs.Described.{Describe}
 use Rattle.frame_functions.specs.ReadFunction.{kept_of}
 use Rattle.frame_functions.specs.Functions.{holds_address, Function}
 use Rattle.sf_asm.specs.Functions.{Object}
 use Rattle.frame_functions.specs.Kept.{read_of, is_kept, kept_functions, omitted_functions}
 use Rattle.frame_functions.specs.Order.{are_apart}
-use Rattle.frame_functions.specs.ContentAt.{IsSaidUpTo, RowAt, SaidTo, SaysUpTo, dwarf_at, form_content, said_in, with_key}
+use Rattle.frame_functions.specs.ContentAt.{HoldsUpTo, RowAt, HoldsTo, GivesUpTo, dwarf_at, form_content, content_in_function, with_key}
 use Rattle.sf_asm.specs.Descriptions.{AreWithDescriptions}
 use Rattle.frame_functions.specs.declared.keyed_content.KeyedContent.{KeyedContent}
 use Rattle.sf_asm.proofs.Agreeing.{expressed_of, find_kept, found_passes}
@@ -64,17 +64,17 @@ record IsRange (f : Function) (ranges : List ContentRange) (pc last : ℕ) (cont
   high : pc < f.start + f.size
   from_here : pc - f.start ≤ last
   below : last < f.size
-  says : (o : ℕ) → pc - f.start ≤ o → o ≤ last → said_by o None ranges ≡ Some content
-  after : last + 1 < f.size → said_by (last + 1) None ranges ≡ Some content → ⊥
+  says : (o : ℕ) → pc - f.start ≤ o → o ≤ last → content_by o None ranges ≡ Some content
+  after : last + 1 < f.size → content_by (last + 1) None ranges ≡ Some content → ⊥
 
-form_is : (f : Function) (ranges : List ContentRange) (o : ℕ) (content : Option Content) → AreSaidBy f.size (form_content f) ranges → o < f.size → said_by o None ranges ≡ Some content → form_content f o ≡ content
+form_is : (f : Function) (ranges : List ContentRange) (o : ℕ) (content : Option Content) → AreRangesOf f.size (form_content f) ranges → o < f.size → content_by o None ranges ≡ Some content → form_content f o ≡ content
 form_is f ranges o content said lt e = let is : Some (form_content f o) ≡ Some content = sym (said.say o lt) ∙ e in cc
 
 some_content : (key : Key) (found : Option Content) (content : Content) → option_map (with_key key) found ≡ Some (with_key key content) → found ≡ Some content
 some_content key None content e = cc
 some_content key (Some c) content e = let is : with_key key c ≡ with_key key content = cc in ap (λ (s : KeyedContent). Some s.content) is
 
-says_up_to : (f : Function) (ranges : List ContentRange) (pc last : ℕ) (content : Content) → AreSaidBy f.size (form_content f) ranges → IsRange f ranges pc last (Some content) → IsSaidUpTo (λ p. said_in p f) f pc (with_key f.key content) (f.start + last)
+says_up_to : (f : Function) (ranges : List ContentRange) (pc last : ℕ) (content : Content) → AreRangesOf f.size (form_content f) ranges → IsRange f ranges pc last (Some content) → HoldsUpTo (λ p. content_in_function p f) f pc (with_key f.key content) (f.start + last)
 says_up_to f ranges pc last content said h =
     let from : f.start ≤ pc = h.low in
     record {
@@ -91,7 +91,7 @@ says_up_to f ranges pc last content said h =
       ];
     }
   where
-    past_last : (other : ℕ) → IsWithin other f.start f.size → SaidTo (λ p. said_in p f) pc other (with_key f.key content) → f.start + last < other → ⊥
+    past_last : (other : ℕ) → IsWithin other f.start f.size → HoldsTo (λ p. content_in_function p f) pc other (with_key f.key content) → f.start + last < other → ⊥
     past_last other w same past =
         let to = w.to in
         let from = h.low in
@@ -102,8 +102,8 @@ says_up_to f ranges pc last content said h =
         let form = some_content f.key (form_content f (last + 1)) content (subst (λ (o : ℕ). option_map (with_key f.key) (form_content f o) ≡ Some (with_key f.key content)) offset here) in
         h.after lt (said.say (last + 1) lt ∙ ap (λ (x : Option Content). Some x) form)
 
-by_range : (f : Function) (ranges : List ContentRange) (pc last : ℕ) (content : Option Content) → AreSaidBy f.size (form_content f) ranges → IsRange f ranges pc last content
-    → SaysUpTo (λ p. said_in p f) f pc (option_map (λ (c : Content). (c, f.key, f.start + last)) content)
+by_range : (f : Function) (ranges : List ContentRange) (pc last : ℕ) (content : Option Content) → AreRangesOf f.size (form_content f) ranges → IsRange f ranges pc last content
+    → GivesUpTo (λ p. content_in_function p f) f pc (option_map (λ (c : Content). (c, f.key, f.start + last)) content)
 by_range f ranges pc last None said h =
     let from = h.low in
     let lt = h.below in
@@ -112,13 +112,13 @@ by_range f ranges pc last None said h =
 by_range f ranges pc last (Some content) said h = says_up_to f ranges pc last content said h
 
 -- what a function's ranges say at one of its addresses
-pub range_row : (f : Function) (ranges : List ContentRange) (start size pc last : ℕ) (key : Key) (content : Option Content) → f.start ≡ start → f.size ≡ size → f.key ≡ key → AreSaidBy size (form_content f) ranges
-    → start ≤ pc → pc < start + size → pc - start ≤ last → last < size → ((o : ℕ) → pc - start ≤ o → o ≤ last → said_by o None ranges ≡ Some content)
-    → (RangesDiffer None ranges → last + 1 < size → said_by (last + 1) None ranges ≢ Some content) → SaysUpTo (λ p. said_in p f) f pc (option_map (λ (c : Content). (c, key, start + last)) content)
+pub range_row : (f : Function) (ranges : List ContentRange) (start size pc last : ℕ) (key : Key) (content : Option Content) → f.start ≡ start → f.size ≡ size → f.key ≡ key → AreRangesOf size (form_content f) ranges
+    → start ≤ pc → pc < start + size → pc - start ≤ last → last < size → ((o : ℕ) → pc - start ≤ o → o ≤ last → content_by o None ranges ≡ Some content)
+    → (RangesDiffer None ranges → last + 1 < size → content_by (last + 1) None ranges ≢ Some content) → GivesUpTo (λ p. content_in_function p f) f pc (option_map (λ (c : Content). (c, key, start + last)) content)
 range_row f ranges start size pc last key content start_is size_is key_is said from to le lt says after =
-    subst (λ (n : ℕ). SaysUpTo (λ p. said_in p f) f pc (option_map (λ (c : Content). (c, key, n + last)) content)) start_is
-    (subst (λ (k : Key). SaysUpTo (λ p. said_in p f) f pc (option_map (λ (c : Content). (c, k, f.start + last)) content)) key_is
-    (by_range f ranges pc last content (subst (λ (n : ℕ). AreSaidBy n (form_content f) ranges) (sym size_is) said) (record {
+    subst (λ (n : ℕ). GivesUpTo (λ p. content_in_function p f) f pc (option_map (λ (c : Content). (c, key, n + last)) content)) start_is
+    (subst (λ (k : Key). GivesUpTo (λ p. content_in_function p f) f pc (option_map (λ (c : Content). (c, k, f.start + last)) content)) key_is
+    (by_range f ranges pc last content (subst (λ (n : ℕ). AreRangesOf n (form_content f) ranges) (sym size_is) said) (record {
       low = omega (arith, from, start_is);
       high = omega (arith, to, start_is, size_is);
       from_here = omega (arith, le, start_is);
@@ -131,7 +131,7 @@ range_row f ranges start size pc last key content start_is size_is key_is said f
 record IsHolder (functions : List Function) (pc : ℕ) (f : Function) : Type 0 where
   is : find (holds_address pc) functions ≡ Some f
   has : holds_address pc f ≡ true
-  there : (p : ℕ) → holds_address p f ≡ true → dwarf_at functions p ≡ said_in p f
+  there : (p : ℕ) → holds_address p f ≡ true → dwarf_at functions p ≡ content_in_function p f
 
 between : (f : Function) (pc p last : ℕ) → holds_address pc f ≡ true → holds_address last f ≡ true → pc ≤ p → p ≤ last → holds_address p f ≡ true
 between f pc p last one other low high =
@@ -139,7 +139,7 @@ between f pc p last one other low high =
     let to = (within last f other).to in
     is_within p f (omega (arith, from, low)) (omega (arith, to, high))
 
-by_holder : (functions : List Function) (pc : ℕ) (f : Function) (row : Option (Content × Key × ℕ)) → IsHolder functions pc f → SaysUpTo (λ p. said_in p f) f pc row → RowAt functions pc row
+by_holder : (functions : List Function) (pc : ℕ) (f : Function) (row : Option (Content × Key × ℕ)) → IsHolder functions pc f → GivesUpTo (λ p. content_in_function p f) f pc row → RowAt functions pc row
 by_holder functions pc f None h says = h.there pc h.has ∙ says
 by_holder functions pc f (Some row) h says = (
   f,
@@ -166,7 +166,7 @@ record IsKeptThere (functions : List Function) (pc : ℕ) (g : Func) : Type 0 wh
 module _ (functions sorted : List Function) (moved : IsPermutation functions sorted) (apart : are_apart 0 (map read_of sorted) ≡ true) (pc : ℕ) where
   holder_of : (f : Function) → Member sorted f → holds_address pc f ≡ true → IsHolder functions pc f
   unfolding dwarf_at
-  holder_of f m has = record { is = alone pc has; has = has; there = λ p t. ap (option_and_then (said_in p)) (alone p t) }
+  holder_of f m has = record { is = alone pc has; has = has; there = λ p t. ap (option_and_then (content_in_function p)) (alone p t) }
     where
       alone : (p : ℕ) → holds_address p f ≡ true → find (holds_address p) functions ≡ Some f
       alone p t = found_alike (holds_address p) functions sorted moved (one_holds p 0 sorted apart) ∙ found_alone (holds_address p) sorted f (one_holds p 0 sorted apart) m t
@@ -199,8 +199,8 @@ module _ (functions sorted : List Function) (moved : IsPermutation functions sor
       neither f t m true k = some_found (holds_address pc) (kept_functions sorted) f t (in_filter is_kept sorted f k m) (no_function (find (holds_address pc) (kept_functions sorted)) (sym (find_kept pc sorted) ∙ no_kept))
       neither f t m false k = some_found (holds_address pc) (omitted_functions sorted) f t (in_filter (λ (g : Function). not (is_kept g)) sorted f (ap not k) m) no_lent
 
-      at_found : (o : Option Function) → find (holds_address pc) sorted ≡ o → option_and_then (said_in pc) (find (holds_address pc) functions) ≡ None
-      at_found None e = ap (option_and_then (said_in pc)) (found_alike (holds_address pc) functions sorted moved (one_holds pc 0 sorted apart) ∙ e)
+      at_found : (o : Option Function) → find (holds_address pc) sorted ≡ o → option_and_then (content_in_function pc) (find (holds_address pc) functions) ≡ None
+      at_found None e = ap (option_and_then (content_in_function pc)) (found_alike (holds_address pc) functions sorted moved (one_holds pc 0 sorted apart) ∙ e)
       at_found (Some f) e = let h = found (holds_address pc) sorted f e in absurd (neither f h.passes h.within (is_kept f) refl)
 
 -- ---- gathered functions
@@ -217,8 +217,8 @@ module _ (objects : List Object) (arch : Arch) (kept : List Func) (omitted : Lis
   kept_function : (g : Func) → find (contains pc) kept ≡ Some g → IsKeptThere h.functions pc g
   kept_function g e = kept_there h.functions h.sorted h.by_start.moved apart pc g (subst (λ (ks : List Func). find (contains pc) ks ≡ Some g) h.kept_are e)
 
-  said_by_rows : (g : Func) (k : IsKeptThere h.functions pc g) → AreSaidBy g.size (form_content k.f) (map range_of_row g.rows)
-  said_by_rows g k = subst (λ (x : Func). AreSaidBy x.size (form_content k.f) (map range_of_row x.rows)) (sym k.is) (kept_said_by k.f k.kept)
+  said_by_rows : (g : Func) (k : IsKeptThere h.functions pc g) → AreRangesOf g.size (form_content k.f) (map range_of_row g.rows)
+  said_by_rows g k = subst (λ (x : Func). AreRangesOf x.size (form_content k.f) (map range_of_row x.rows)) (sym k.is) (kept_said_by k.f k.kept)
 
   -- what is owed of it
   pub record IsAskable (g : Func) : Type 0 where
@@ -237,14 +237,14 @@ module _ (objects : List Object) (arch : Arch) (kept : List Func) (omitted : Lis
       record { from = subst (λ (x : Func). x.start ≤ pc) (sym k.is) w.from; to = subst (λ (x : Func). pc < x.start + x.size) (sym k.is) w.to; end = writable.end; ranges = (said_by_rows g k).are }
 
   pub row_of_kept : (g : Func) → find (contains pc) kept ≡ Some g → (row : Option (Content × Key × ℕ))
-      → ((f : Function) → f.start ≡ g.start → f.size ≡ g.size → f.key ≡ g.key → AreSaidBy g.size (form_content f) (map range_of_row g.rows) → SaysUpTo (λ p. said_in p f) f pc row)
+      → ((f : Function) → f.start ≡ g.start → f.size ≡ g.size → f.key ≡ g.key → AreRangesOf g.size (form_content f) (map range_of_row g.rows) → GivesUpTo (λ p. content_in_function p f) f pc row)
       → (functions : List Function) → Describe 0 objects (Ok functions) → RowAt functions pc row
   row_of_kept g e row says =
       let k = kept_function g e in
       let own = says k.f (sym (ap (λ (x : Func). x.start) k.is)) (sym (ap (λ (x : Func). x.size) k.is)) (sym (ap (λ (x : Func). x.key) k.is)) (said_by_rows g k) in
       of_these row (by_holder h.functions pc k.f row k.holder own)
 
-  pub row_of_omitted : (f : Function) → find (holds_address pc) descriptions ≡ Some f → (row : Option (Content × Key × ℕ)) → SaysUpTo (λ p. said_in p f) f pc row → (functions : List Function) → Describe 0 objects (Ok functions) → RowAt functions pc row
+  pub row_of_omitted : (f : Function) → find (holds_address pc) descriptions ≡ Some f → (row : Option (Content × Key × ℕ)) → GivesUpTo (λ p. content_in_function p f) f pc row → (functions : List Function) → Describe 0 objects (Ok functions) → RowAt functions pc row
   row_of_omitted f e row says = of_these row (by_holder h.functions pc f row (omitted_there h.functions h.sorted h.by_start.moved apart pc descriptions f h.descriptions_are e) says)
 
   pub omitted_within : (f : Function) → find (holds_address pc) descriptions ≡ Some f → IsWithin pc f.start f.size

@@ -5,11 +5,11 @@ ghost use Rattle.std.specs.List.{find};
 ghost use Rattle.std.specs.Option.{option_map};
 ghost use Rattle.sf_model.specs.Function.{AreWritable};
 ghost use Rattle.sf_model.specs.Lookup.{contains};
-ghost use Rattle.sf_express.specs.ContentRanges.{AreRanges, AreSaidBy, range_of_row};
+ghost use Rattle.sf_express.specs.ContentRanges.{AreRanges, AreRangesOf, range_of_row};
 ghost use Rattle.sf_asm.specs.declared.fault.GatherFault.TheVariants as gather_fault;
 ghost use Rattle.sf_asm.specs.Accepted.{CanBeGathered};
 ghost use Rattle.sf_asm.specs.Answers.{AreGathered, IsAssembled, IsFirstGathered, IsFirstLinked};
-ghost use Rattle.frame_functions.specs.ContentAt.{RowAt, SaysUpTo, form_content, said_in};
+ghost use Rattle.frame_functions.specs.ContentAt.{RowAt, GivesUpTo, form_content, content_in_function};
 ghost use Rattle.sf_asm.specs.Described.{Describe};
 ghost use Rattle.frame_functions.specs.ReadFunction.{kept_by_item, omitted_of, spans_of};
 ghost use Rattle.frame_functions.specs.Functions.{holds_address, Function};
@@ -193,7 +193,7 @@ fn row_in(
     requires to { pc < start + size }
     requires end { start + size ≤ 2 ^ 64 }
     requires ranges { AreRanges size ranges.now }
-    ensures { (f : Function) → f.start ≡ start → f.size ≡ size → f.key ≡ key → AreSaidBy size (form_content f) ranges.now → SaysUpTo (λ p. said_in p f) f pc result }
+    ensures { (f : Function) → f.start ≡ start → f.size ≡ size → f.key ≡ key → AreRangesOf size (form_content f) ranges.now → GivesUpTo (λ p. content_in_function p f) f pc result }
 {
     let (content, last) = range_at(ranges, size, pc - start);
     Some((content?, key, start + last))
@@ -205,7 +205,7 @@ fn kept_row(alloc: Global, func: &Func, pc: u64) -> Result<Option<(Content, Key,
     requires to { pc < func.now.start + func.now.size }
     requires end { func.now.start + func.now.size ≤ 2 ^ 64 }
     requires ranges { AreRanges func.now.size (map range_of_row func.now.rows) }
-    ensures { IfOk result (λ row. (f : Function) → f.start ≡ func.now.start → f.size ≡ func.now.size → f.key ≡ func.now.key → AreSaidBy func.now.size (form_content f) (map range_of_row func.now.rows) → SaysUpTo (λ p. said_in p f) f pc row) }
+    ensures { IfOk result (λ row. (f : Function) → f.start ≡ func.now.start → f.size ≡ func.now.size → f.key ≡ func.now.key → AreRangesOf func.now.size (form_content f) (map range_of_row func.now.rows) → GivesUpTo (λ p. content_in_function p f) f pc row) }
 {
     let ranges = ranges_of_rows(alloc, func.rows.as_slice())?;
     Ok(row_in(&ranges, func.start, u64::from(func.size), func.key, pc))
@@ -219,7 +219,7 @@ fn omitted_row(
 ) -> Result<Option<(Content, Key, u64)>, NoMemory>
     requires from { description.now.facts.start ≤ pc }
     requires to { pc < description.now.facts.start + description.now.facts.size }
-    ensures { IfOk result (λ row. SaysUpTo (λ p. said_in p (described_function description.now)) (described_function description.now) pc row) }
+    ensures { IfOk result (λ row. GivesUpTo (λ p. content_in_function p (described_function description.now)) (described_function description.now) pc row) }
 {
     let facts = description.facts;
     let ranges = content_ranges(alloc, description, &mut Runner::new())?;

@@ -2,25 +2,25 @@
 use Rattle.std.proofs.Common.{◌≡◌, ◌++◌, ◌∷◌, ◌+◌, ◌-◌, ◌∙◌, ℕ, List, [], Option, Some, None, take, drop, length, refl, sym, ap, subst, append_assoc}
 use Rattle.std.proofs.lemmas.List.{take_rest}
 use Rattle.std.proofs.Math.Seq.{take-add}
-use Rattle.sf_base.specs.Told.{OnTold}
+use Rattle.sf_base.specs.Known.{OnKnown}
 use Rattle.sf_base.specs.Contents.{contents_of, Changes, Unchanged, Holds, HoldsPrefix, Grows, GrowsByPrefix}
 use Rattle.sf_base.specs.Written.{Appends, AppendsPrefix, Kept}
 
 -- before the first call
-pub told_same : {A : Type 0} (told : Option A) (P : A → A → Type 0) → ((a : A) → P a a) → OnTold told told P
+pub told_same : {A : Type 0} (told : Option A) (P : A → A → Type 0) → ((a : A) → P a a) → OnKnown told told P
 told_same None P same = tt
 told_same (Some a) P same = same a
 
 -- two consecutive calls
-pub told_then : {A : Type 0} (before mid after : Option A) (P Q R : A → A → Type 0) → OnTold before mid P → OnTold mid after Q
-    → ((a b c : A) → P a b → Q b c → R a c) → OnTold before after R
+pub told_then : {A : Type 0} (before mid after : Option A) (P Q R : A → A → Type 0) → OnKnown before mid P → OnKnown mid after Q
+    → ((a b c : A) → P a b → Q b c → R a c) → OnKnown before after R
 told_then before mid None P Q R first second step = tt
 told_then before None (Some c) P Q R first second step = absurd second
 told_then None (Some b) (Some c) P Q R first second step = absurd first
 told_then (Some a) (Some b) (Some c) P Q R first second step = step a b c first second
 
 -- a claim that follows from another
-pub told_weaker : {A : Type 0} (before after : Option A) (P Q : A → A → Type 0) → OnTold before after P → ((a b : A) → P a b → Q a b) → OnTold before after Q
+pub told_weaker : {A : Type 0} (before after : Option A) (P Q : A → A → Type 0) → OnKnown before after P → ((a b : A) → P a b → Q a b) → OnKnown before after Q
 told_weaker before None P Q told step = tt
 told_weaker None (Some b) P Q told step = absurd told
 told_weaker (Some a) (Some b) P Q told step = step a b told

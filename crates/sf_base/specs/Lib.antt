@@ -1,5 +1,5 @@
 pub mod Seen
-pub mod Told
+pub mod Known
 pub mod Faults
 pub mod Contents
 pub mod Written

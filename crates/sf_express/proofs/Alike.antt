@@ -27,12 +27,12 @@ use Rattle.cfa_machine.specs.declared.row.DwRow.{DwRow}
 use Rattle.cfa_machine.specs.Registers.{stack_pointer, frame_pointer}
 use Rattle.cfa_machine.specs.Columns.{row_from}
 use Rattle.cfa_machine.specs.FullRow.{FullRow, columns_of}
-use Rattle.cfa_machine.specs.RowAtOffset.{latest_at, SaysAt}
+use Rattle.cfa_machine.specs.RowAtOffset.{latest_at, HasColumns}
 use Rattle.cfa_machine.specs.ColumnRecovery.{columns_recover, columns_recover_from, return_register}
 use Rattle.cfa_machine.specs.Recovery.{RuleRecovery, register_value, frame_address_by, value_by}
 use Rattle.cfa_machine.proofs.ColumnRecovery.{recovery_of_columns}
 use Rattle.sf_express.specs.Rules.{◌>>=◌, fits_i32, narrowed, base_of, cfa_at, cfa_from, cfa_content, is_zero, stack_pointer_check, is_minus_8, return_address_at, return_address_content, frame_pointer_at, frame_pointer_content, frame_pointer_needs_return_address, sign_state_check, content_of}
-use Rattle.sf_express.specs.Offsets.{said, as_said, latest_content}
+use Rattle.sf_express.specs.Offsets.{content_or_reason, without_reason, latest_content}
 use Rattle.sf_express.specs.Alike.{defined, RecoverAlike, ColumnsRecoverAlike, FoundAlike}
 use Rattle.sf_express.proofs.Writable.{made}
 
@@ -234,13 +234,13 @@ recovers_alike arch start row content e =
     }
 
 -- ---- at an offset
-found_alike : (arch : Arch) (row : FullRow) (start : ℕ) (said_there : Option DwRow) (found : Option Content) → said_there ≡ Some (row_from start (columns_of arch row)) → said arch said_there ≡ as_said found → FoundAlike arch row found
+found_alike : (arch : Arch) (row : FullRow) (start : ℕ) (said_there : Option DwRow) (found : Option Content) → said_there ≡ Some (row_from start (columns_of arch row)) → content_or_reason arch said_there ≡ without_reason found → FoundAlike arch row found
 found_alike arch row start said_there (Some content) is e =
-    let said_is : Some (content_of arch (row_from start (columns_of arch row))) ≡ Some (Ok content) = sym (ap (said arch) is) ∙ e in
+    let said_is : Some (content_of arch (row_from start (columns_of arch row))) ≡ Some (Ok content) = sym (ap (content_or_reason arch) is) ∙ e in
     record { content = content; is = refl; alike = recovers_alike arch start row content cc }
 found_alike arch row start said_there None is e =
-    let said_is : Some (content_of arch (row_from start (columns_of arch row))) ≡ None = sym (ap (said arch) is) ∙ e in
+    let said_is : Some (content_of arch (row_from start (columns_of arch row))) ≡ None = sym (ap (content_or_reason arch) is) ∙ e in
     cc
 
-pub found_at_offset : (arch : Arch) (row : FullRow) (rows : List DwRow) (kept : List Row) (o : ℕ) → SaysAt arch row (latest_at o None rows) → said arch (latest_at o None rows) ≡ as_said (latest_content o None kept) → FoundAlike arch row (latest_content o None kept)
+pub found_at_offset : (arch : Arch) (row : FullRow) (rows : List DwRow) (kept : List Row) (o : ℕ) → HasColumns arch row (latest_at o None rows) → content_or_reason arch (latest_at o None rows) ≡ without_reason (latest_content o None kept) → FoundAlike arch row (latest_content o None kept)
 found_at_offset arch row rows kept o h e = found_alike arch row h.start (latest_at o None rows) (latest_content o None kept) h.is e

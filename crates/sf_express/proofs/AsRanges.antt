@@ -8,9 +8,9 @@ use Rattle.sf_model.specs.declared.content.Content.{Content}
 use Rattle.sf_model.specs.declared.omission.Reason.{Reason}
 use Rattle.sf_model.specs.declared.rows.Row.{Row}
 use Rattle.sf_express.specs.declared.content_ranges.ContentRange.{ContentRange}
-use Rattle.sf_express.specs.Offsets.{DifferFrom, as_said, latest_content}
-use Rattle.sf_express.specs.ContentRanges.{AreSaidBy, RangesBegin, RangesDiffer, RangesRise, content_in, range_of_row, said_by}
-use Rattle.sf_express.specs.Runs.{Saying, begins, row_there, rows_among, rows_of}
+use Rattle.sf_express.specs.Offsets.{DifferFrom, without_reason, latest_content}
+use Rattle.sf_express.specs.ContentRanges.{AreRangesOf, RangesBegin, RangesDiffer, RangesRise, content_in, range_of_row, content_by}
+use Rattle.sf_express.specs.Runs.{ContentsByOffset, begins, row_there, rows_among, rows_of}
 use Rattle.sf_express.proofs.Found.{SaysContent, content_said, found_before, latest_said, rise_among}
 use Rattle.sf_express.proofs.Runs.{FoundBefore, begins_not, found_on, skips, takes}
 use Rattle.sf_express.proofs.Same.{kept_past}
@@ -23,14 +23,14 @@ as_ranges rows = map range_of_row rows
 abbrev as_content : Option Content → Option (Option Content)
 as_content found = option_map (λ (c : Content). Some c) found
 
-said_latest : (o least : ℕ) (found : Option Content) (rows : List Row) → StartsRise least rows → said_by o (as_content found) (as_ranges rows) ≡ as_content (latest_content o found rows)
+said_latest : (o least : ℕ) (found : Option Content) (rows : List Row) → StartsRise least rows → content_by o (as_content found) (as_ranges rows) ≡ as_content (latest_content o found rows)
 said_latest o least found [] h = refl
 said_latest o least found (r ∷ rows) h = elim (cases_lt o r.start) [
   | inl after ↦ rw (lt-leb r.start o after) (sym (ap as_content (kept_past o (r.start + 1) found rows (omega (arith, after)) h.1)))
   | inr not_after ↦ rw (le-leb r.start o (omega (arith, not_after))) (said_latest o (r.start + 1) (Some r.content) rows h.1)
 ]
 
-is_said : (found : Option Content) (said : Result Content Reason) → as_said found ≡ Some said → as_content found ≡ Some (content_in said)
+is_said : (found : Option Content) (said : Result Content Reason) → without_reason found ≡ Some said → as_content found ≡ Some (content_in said)
 is_said None said e = cc
 is_said (Some c) said e = let is : Ok c ≡ said = cc in ap (λ (x : Result Content Reason). Some (content_in x)) is
 
@@ -39,7 +39,7 @@ ranges_rise : (least : ℕ) (rows : List Row) → StartsRise least rows → Rang
 ranges_rise least [] h = tt
 ranges_rise least (r ∷ rows) h = (h.0, ranges_rise (r.start + 1) rows h.1)
 
-ranges_below : (says : Saying) (a n end : ℕ) → a + n ≤ end → All (λ (p : ContentRange). p.start < end) (as_ranges (rows_among says (range_with_len a n)))
+ranges_below : (says : ContentsByOffset) (a n end : ℕ) → a + n ≤ end → All (λ (p : ContentRange). p.start < end) (as_ranges (rows_among says (range_with_len a n)))
 ranges_below says a zero end le = All-nil (λ (p : ContentRange). p.start < end)
 ranges_below says a (suc n) end le = at_test (begins says a) (ranges_below says (a + 1) n end (omega (arith, le)))
   where
@@ -52,7 +52,7 @@ ranges_below says a (suc n) end le = at_test (begins says a) (ranges_below says 
     at_test true h = one (says a) (rows_among says (range_with_len (a + 1) n)) h
     at_test false h = h
 
-ranges_begin : (says : Saying) (n : ℕ) → SaysContent (says 0) → RangesBegin (as_ranges (rows_among says (range_with_len 0 (suc n))))
+ranges_begin : (says : ContentsByOffset) (n : ℕ) → SaysContent (says 0) → RangesBegin (as_ranges (rows_among says (range_with_len 0 (suc n))))
 ranges_begin says n first =
     let here = content_said (says 0) first in
     subst (λ (rows : List Row). RangesBegin (as_ranges rows)) (sym (takes says 0 n here.0 refl here.1)) refl
@@ -66,7 +66,7 @@ differ_as_ranges last (r ∷ rows) h = (other last h.0, differ_as_ranges (Some r
     other None differs e = cc
     other (Some c) differs e = let is : c ≡ r.content = cc in differs (ap (λ (x : Content). Some x) is)
 
-rows_differ : (says : Saying) (a n : ℕ) (found : Option Content) → FoundBefore says a found → ((o : ℕ) → a ≤ o → o < a + n → SaysContent (says o)) → DifferFrom found (rows_among says (range_with_len a n))
+rows_differ : (says : ContentsByOffset) (a n : ℕ) (found : Option Content) → FoundBefore says a found → ((o : ℕ) → a ≤ o → o < a + n → SaysContent (says o)) → DifferFrom found (rows_among says (range_with_len a n))
 rows_differ says a zero found before all = tt
 rows_differ says a (suc n) found before all =
     let here = content_said (says a) (all a (omega arith) (omega arith)) in
@@ -77,7 +77,7 @@ rows_differ says a (suc n) found before all =
   where
     never : (c : Content) → says a ≡ Ok c → begins says a ≡ true → found ≡ Some c → ⊥
     never c said t is =
-        let none : begins says a ≡ false = begins_not says a found before (ap as_said is ∙ ap (λ (x : Result Content Reason). Some x) (sym said)) in
+        let none : begins says a ≡ false = begins_not says a found before (ap without_reason is ∙ ap (λ (x : Result Content Reason). Some x) (sym said)) in
         let both : true ≡ false = sym t ∙ none in
         cc
 
@@ -87,7 +87,7 @@ rows_differ says a (suc n) found before all =
     at_test c said false t begun other = subst (DifferFrom found) (sym (skips says a n t)) (other t)
 
 -- ---- the rows of a kept function
-pub rows_said_by : (says : Saying) (size : ℕ) → 0 < size → ((o : ℕ) → o < size → SaysContent (says o)) → AreSaidBy size (λ o. content_in (says o)) (map range_of_row (rows_of says size))
+pub rows_said_by : (says : ContentsByOffset) (size : ℕ) → 0 < size → ((o : ℕ) → o < size → SaysContent (says o)) → AreRangesOf size (λ o. content_in (says o)) (map range_of_row (rows_of says size))
 unfolding rows_of
 rows_said_by says zero some all = absurd (omega (arith, some))
 rows_said_by says (suc n) some all =

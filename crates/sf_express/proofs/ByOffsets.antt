@@ -18,8 +18,8 @@ use Rattle.sf_express.specs.declared.list_forms.ExpressFault.{ExpressFault}
 use Rattle.sf_express.specs.declared.list_forms.ExpressFault.TheVariants.{Omit, NoMemory}
 use Rattle.sf_express.specs.Rules.{content_of}
 use Rattle.sf_express.specs.Expressed.{◌>>=◌, reason_of, row_from, unless_repeated, repeats, expressed_rows, with_rows, function_by, Gives}
-use Rattle.sf_express.specs.Offsets.{said, said_at, as_said, latest_content, SayTheSame, IsSayable, IsOmission, IsFirstReason, Omits}
-use Rattle.sf_express.specs.Runs.{Saying, against, or_later, first_against, whole_or_row, omission_of, rows_of, expressed, unless_omitted, function_of, AreSaid}
+use Rattle.sf_express.specs.Offsets.{content_or_reason, content_at_offset, without_reason, latest_content, HaveSameContents, CanBeExpressed, IsOmission, IsFirstReason, Omits}
+use Rattle.sf_express.specs.Runs.{ContentsByOffset, against, or_later, first_against, whole_or_row, omission_of, rows_of, expressed, unless_omitted, function_of, AreContentsOf}
 use Rattle.sf_express.proofs.Runs.{RowsBelow, rows_are}
 use Rattle.sf_express.proofs.Writable.{KeptFit, kept_fit, size_is_some}
 use Rattle.sf_express.proofs.Same.{kept_say_the_same}
@@ -47,7 +47,7 @@ kept_below arch end last (r ∷ rows) below =
     below_then end r.start last (content_of arch r) _ (below 0 r (omega arith)) (λ row. kept_below arch end (Some row.content) rows (All-tail (λ (x : DwRow). x.start < end) r rows below))
 
 -- ---- a kept function
-kept_is : (arch : Arch) (size : ℕ) (rows : List DwRow) (kept : List Row) (says : Saying) → AreRows arch size rows → expressed_rows arch None rows ≡ Ok kept → AreSaid arch size rows says → kept ≡ rows_of says size
+kept_is : (arch : Arch) (size : ℕ) (rows : List DwRow) (kept : List Row) (says : ContentsByOffset) → AreRows arch size rows → expressed_rows arch None rows ≡ Ok kept → AreContentsOf arch size rows says → kept ≡ rows_of says size
 unfolding rows_of
 kept_is arch size rows kept says h e are =
     let rise = subst (KeptFit arch 0) e (kept_fit arch 0 None rows h.rise h.signs) in
@@ -56,17 +56,17 @@ kept_is arch size rows kept says h e are =
     rows_are says 0 size size None kept (omega arith) rise.rise below (λ o le lt. sym (same o) ∙ are o (omega (arith, lt))) refl (kept_differ arch rows kept e)
 
 -- if each row can be expressed there is no reason
-fine_first : (a : ℕ) (x : Result Content Reason) (later : Option Omission) → IsSayable (Some x) → or_later (against a x) later ≡ later
+fine_first : (a : ℕ) (x : Result Content Reason) (later : Option Omission) → CanBeExpressed (Some x) → or_later (against a x) later ≡ later
 fine_first a (Ok c) later fine = refl
 fine_first a (Err reason) later fine = absurd fine
 
-none_against : (says : Saying) (a n : ℕ) → ((o : ℕ) → a ≤ o → o < a + n → IsSayable (Some (says o))) → first_against says (range_with_len a n) ≡ None
+none_against : (says : ContentsByOffset) (a n : ℕ) → ((o : ℕ) → a ≤ o → o < a + n → CanBeExpressed (Some (says o))) → first_against says (range_with_len a n) ≡ None
 none_against says a zero h = refl
 none_against says a (suc n) h =
     fine_first a (says a) (first_against says (range_with_len (a + 1) n)) (h a (omega arith) (omega arith))
     ∙ none_against says (a + 1) n (λ o le lt. h o (omega (arith, le)) (omega (arith, lt)))
 
-first_is : (says : Saying) (reason : Reason) (a n at : ℕ) → a ≤ at → at < a + n → says at ≡ Err reason → ((o : ℕ) → o < at → IsSayable (Some (says o))) → first_against says (range_with_len a n) ≡ Some (record { reason = reason; offset = Some at })
+first_is : (says : ContentsByOffset) (reason : Reason) (a n at : ℕ) → a ≤ at → at < a + n → says at ≡ Err reason → ((o : ℕ) → o < at → CanBeExpressed (Some (says o))) → first_against says (range_with_len a n) ≡ Some (record { reason = reason; offset = Some at })
 first_is says reason a zero at from to there before = absurd (omega (arith, from, to))
 first_is says reason a (suc n) at from to there before =
     elim (cases_lt a at) [
@@ -91,8 +91,8 @@ as_before a b found (r ∷ rows) below le =
     ∙ as_before a b (Some r) rows (All-tail (λ (x : DwRow). x.start < suc a) r rows below) le
     ∙ sym (ap (λ (t : Bool). latest_at a (cond t (Some r) found) rows) (le-leb r.start a here))
 
-no_sayable : (arch : Arch) (found : Option DwRow) (reason : Reason) → said arch found ≡ Some (Err reason) → IsSayable (said arch found) → ⊥
-no_sayable arch found reason e h = subst IsSayable e h
+no_sayable : (arch : Arch) (found : Option DwRow) (reason : Reason) → content_or_reason arch found ≡ Some (Err reason) → CanBeExpressed (content_or_reason arch found) → ⊥
+no_sayable arch found reason e h = subst CanBeExpressed e h
 
 -- the first reason is at an offset below the size
 is_below : (arch : Arch) (size : ℕ) (rows : List DwRow) (reason : Reason) (o : ℕ) → 0 < size → All (λ (r : DwRow). r.start < size) rows → IsFirstReason arch rows reason o → o < size
@@ -102,19 +102,19 @@ is_below arch (suc last) rows reason o some below h =
       | inl lt ↦ lt
       | inr le ↦
           let same = as_before last o None rows below (omega (arith, le)) in
-          absurd (no_sayable arch (latest_at last None rows) reason (sym (ap (said arch) same) ∙ h.there) (h.before last (omega (arith, le))))
+          absurd (no_sayable arch (latest_at last None rows) reason (sym (ap (content_or_reason arch) same) ∙ h.there) (h.before last (omega (arith, le))))
     ]
 
-said_there : (says : Saying) (o : ℕ) (x : Option (Result Content Reason)) (reason : Reason) → x ≡ Some (says o) → x ≡ Some (Err reason) → says o ≡ Err reason
+said_there : (says : ContentsByOffset) (o : ℕ) (x : Option (Result Content Reason)) (reason : Reason) → x ≡ Some (says o) → x ≡ Some (Err reason) → says o ≡ Err reason
 said_there says o x reason p q = let e : Some (says o) ≡ Some (Err reason) = sym p ∙ q in cc
 
-row_reason : (arch : Arch) (size : ℕ) (rows : List DwRow) (says : Saying) (reason : Reason) (o : ℕ) → 0 < size → All (λ (r : DwRow). r.start < size) rows → AreSaid arch size rows says → IsFirstReason arch rows reason o
+row_reason : (arch : Arch) (size : ℕ) (rows : List DwRow) (says : ContentsByOffset) (reason : Reason) (o : ℕ) → 0 < size → All (λ (r : DwRow). r.start < size) rows → AreContentsOf arch size rows says → IsFirstReason arch rows reason o
     → first_against says (range_with_len 0 size) ≡ Some (record { reason = reason; offset = Some o })
 row_reason arch size rows says reason o some below are h =
     let lt = is_below arch size rows reason o some below h in
-    first_is says reason 0 size o (omega arith) (omega (arith, lt)) (said_there says o (said_at arch o rows) reason (are o lt) h.there) (λ p before. subst IsSayable (are p (omega (arith, before, lt))) (h.before p before))
+    first_is says reason 0 size o (omega arith) (omega (arith, lt)) (said_there says o (content_at_offset arch o rows) reason (are o lt) h.there) (λ p before. subst CanBeExpressed (are p (omega (arith, before, lt))) (h.before p before))
 
-omission_is : (arch : Arch) (facts : FdeFacts) (rows : List DwRow) (says : Saying) (omission : Omission) → AreRows arch facts.size rows → AreSaid arch facts.size rows says → IsOmission arch facts rows omission.reason omission.offset → omission_of arch facts says ≡ Some omission
+omission_is : (arch : Arch) (facts : FdeFacts) (rows : List DwRow) (says : ContentsByOffset) (omission : Omission) → AreRows arch facts.size rows → AreContentsOf arch facts.size rows says → IsOmission arch facts rows omission.reason omission.offset → omission_of arch facts says ≡ Some omission
 unfolding omission_of
 omission_is arch facts rows says omission h are is = at_offset omission.offset refl is
   where
@@ -129,17 +129,17 @@ omission_is arch facts rows says omission h are is = at_offset omission.offset r
         ∙ ap (λ (x : Omission). Some x) same
 
 -- ---- the answer
-sayable : (found : Option Content) (said : Result Content Reason) → as_said found ≡ Some said → IsSayable (Some said)
-sayable (Some c) said e = let is : Ok c ≡ said = cc in subst (λ (x : Result Content Reason). IsSayable (Some x)) is tt
+sayable : (found : Option Content) (said : Result Content Reason) → without_reason found ≡ Some said → CanBeExpressed (Some said)
+sayable (Some c) said e = let is : Ok c ≡ said = cc in subst (λ (x : Result Content Reason). CanBeExpressed (Some x)) is tt
 sayable None said e = cc
 
-none_is : (arch : Arch) (facts : FdeFacts) (rows : List DwRow) (kept : List Row) (says : Saying) → reason_of arch facts ≡ None → SayTheSame arch rows kept → AreSaid arch facts.size rows says → omission_of arch facts says ≡ None
+none_is : (arch : Arch) (facts : FdeFacts) (rows : List DwRow) (kept : List Row) (says : ContentsByOffset) → reason_of arch facts ≡ None → HaveSameContents arch rows kept → AreContentsOf arch facts.size rows says → omission_of arch facts says ≡ None
 unfolding omission_of
 none_is arch facts rows kept says none same are =
     ap (λ (x : Option Reason). whole_or_row x (first_against says (range_with_len 0 facts.size))) none
     ∙ none_against says 0 facts.size (λ o le lt. sayable (latest_content o None kept) (says o) (sym (same o) ∙ are o (omega (arith, lt))))
 
-function_is : (arch : Arch) (facts : FdeFacts) (rows : List DwRow) (says : Saying) (f : Func) (whole : Option Reason) (given : Result (List Row) Omission) → AreRows arch facts.size rows → AreSaid arch facts.size rows says
+function_is : (arch : Arch) (facts : FdeFacts) (rows : List DwRow) (says : ContentsByOffset) (f : Func) (whole : Option Reason) (given : Result (List Row) Omission) → AreRows arch facts.size rows → AreContentsOf arch facts.size rows says
     → reason_of arch facts ≡ whole → expressed_rows arch None rows ≡ given → with_rows facts whole given ≡ Ok f → function_of arch facts says ≡ Ok f
 unfolding function_of
 function_is arch facts rows says f (Some reason) given h are p q e = cc
@@ -151,13 +151,13 @@ function_is arch facts rows says f None (Ok kept) h are p q e =
     ∙ ap (λ (xs : List Row). Ok (record { start = facts.start; size = facts.size; shape = Plain; key = facts.key; rows = xs })) (sym (kept_is arch facts.size rows kept says h q are))
     ∙ ap (λ (x : Func). Ok x) made
 
-omitted_is : (arch : Arch) (facts : FdeFacts) (rows : List DwRow) (says : Saying) (omission : Omission) → AreRows arch facts.size rows → AreSaid arch facts.size rows says → IsOmission arch facts rows omission.reason omission.offset
+omitted_is : (arch : Arch) (facts : FdeFacts) (rows : List DwRow) (says : ContentsByOffset) (omission : Omission) → AreRows arch facts.size rows → AreContentsOf arch facts.size rows says → IsOmission arch facts rows omission.reason omission.offset
     → function_of arch facts says ≡ Err omission
 unfolding function_of
 omitted_is arch facts rows says omission h are is = ap (λ (x : Option Omission). unless_omitted x (expressed facts says)) (omission_is arch facts rows says omission h are is)
 
 pub answer_means : (arch : Arch) (facts : FdeFacts) (rows : List DwRow) (answer : Result Func ExpressFault) → AreRows arch facts.size rows → Gives (λ (f : Func). f) answer (function_by arch facts rows) → Omits arch facts rows answer
-    → (says : Saying) → AreSaid arch facts.size rows says → Gives (λ (f : Func). f) answer (function_of arch facts says)
+    → (says : ContentsByOffset) → AreContentsOf arch facts.size rows says → Gives (λ (f : Func). f) answer (function_of arch facts says)
 answer_means arch facts rows (Ok f) h gives omits = λ says are. function_is arch facts rows says f (reason_of arch facts) (expressed_rows arch None rows) h are refl refl gives
 answer_means arch facts rows (Err (Omit omission)) h gives omits = λ says are. omitted_is arch facts rows says omission h are omits
 answer_means arch facts rows (Err NoMemory) h gives omits = λ says are. tt

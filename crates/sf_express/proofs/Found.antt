@@ -8,8 +8,8 @@ use Rattle.sf_model.specs.declared.content.Content.{Content}
 use Rattle.sf_model.specs.declared.omission.Reason.{Reason}
 use Rattle.sf_model.specs.declared.rows.Row.{Row}
 use Rattle.sf_model.specs.Lookup.{begins_by, begins_last, row_at}
-use Rattle.sf_express.specs.Offsets.{as_said, latest_content}
-use Rattle.sf_express.specs.Runs.{Saying, say_the_same, begins, row_there, rows_among, rows_of}
+use Rattle.sf_express.specs.Offsets.{without_reason, latest_content}
+use Rattle.sf_express.specs.Runs.{ContentsByOffset, are_same_contents, begins, row_there, rows_among, rows_of}
 use Rattle.sf_express.proofs.Same.{kept_past, content_same}
 use Rattle.sf_express.proofs.Runs.{FoundBefore, skips, takes, found_on}
 use Rattle.sf_express.proofs.Writable.{StartsRise, rise_lower}
@@ -77,7 +77,7 @@ rise_one : (a : ℕ) (x : Result Content Reason) (rows : List Row) → StartsRis
 rise_one a (Ok c) rows h = (omega arith, h)
 rise_one a (Err reason) rows h = rise_lower a (a + 1) rows (omega arith) h
 
-pub rise_among : (says : Saying) (a n : ℕ) → StartsRise a (rows_among says (range_with_len a n))
+pub rise_among : (says : ContentsByOffset) (a n : ℕ) → StartsRise a (rows_among says (range_with_len a n))
 rise_among says a zero = tt
 rise_among says a (suc n) = at_test (begins says a) (rise_among says (a + 1) n)
   where
@@ -95,21 +95,21 @@ pub content_said : (x : Result Content Reason) → SaysContent x → (c : Conten
 content_said (Ok c) h = (c, refl)
 content_said (Err reason) h = absurd h
 
-same_said : (x y : Result Content Reason) (b : Bool) → say_the_same x y ≡ b → not b ≡ false → x ≡ y
+same_said : (x y : Result Content Reason) (b : Bool) → are_same_contents x y ≡ b → not b ≡ false → x ≡ y
 same_said (Ok c) (Ok d) true e f = ap (λ (z : Content). Ok z) (content_same c d e)
 same_said (Ok c) (Err reason) true e f = cc
 same_said (Err reason) y true e f = cc
 same_said x y false e f = cc
 
-pub found_before : (says : Saying) (a : ℕ) (found : Option Content) → FoundBefore says a found → begins says a ≡ false → as_said found ≡ Some (says a)
+pub found_before : (says : ContentsByOffset) (a : ℕ) (found : Option Content) → FoundBefore says a found → begins says a ≡ false → without_reason found ≡ Some (says a)
 found_before says zero found before e = cc
-found_before says (suc a) found before e = before ∙ ap (λ (x : Result Content Reason). Some x) (same_said (says a) (says (suc a)) (say_the_same (says a) (says (suc a))) refl e)
+found_before says (suc a) found before e = before ∙ ap (λ (x : Result Content Reason). Some x) (same_said (says a) (says (suc a)) (are_same_contents (says a) (says (suc a))) refl e)
 
 taken : (o a : ℕ) (c : Content) (found : Option Content) (rows : List Row) → a ≤ o → latest_content o found (record { start = a; content = c } ∷ rows) ≡ latest_content o (Some c) rows
 taken o a c found rows le = ap (λ (b : Bool). latest_content o (cond b (Some c) found) rows) (le-leb a o le)
 
-pub latest_said : (says : Saying) (a n : ℕ) (found : Option Content) → FoundBefore says a found → ((o : ℕ) → a ≤ o → o < a + n → SaysContent (says o))
-    → (o : ℕ) → a ≤ o → o < a + n → as_said (latest_content o found (rows_among says (range_with_len a n))) ≡ Some (says o)
+pub latest_said : (says : ContentsByOffset) (a n : ℕ) (found : Option Content) → FoundBefore says a found → ((o : ℕ) → a ≤ o → o < a + n → SaysContent (says o))
+    → (o : ℕ) → a ≤ o → o < a + n → without_reason (latest_content o found (rows_among says (range_with_len a n))) ≡ Some (says o)
 latest_said says a zero found before all o le lt = absurd (omega (arith, le, lt))
 latest_said says a (suc n) found before all o le lt =
     let here = content_said (says a) (all a (omega arith) (omega arith)) in
@@ -119,30 +119,30 @@ latest_said says a (suc n) found before all o le lt =
     (λ e high. latest_said says (a + 1) n (Some here.0) (found_on says a (Some here.0) (ap (λ (x : Result Content Reason). Some x) (sym here.1))) all' o high (omega (arith, lt)))
     (λ e high. latest_said says (a + 1) n found (found_on says a found (found_before says a found before e)) all' o high (omega (arith, lt)))
   where
-    at_here : (x : Option Content) → as_said x ≡ Some (says a) → (o ≡ a) → as_said (latest_content o x (rows_among says (range_with_len (a + 1) n))) ≡ Some (says o)
+    at_here : (x : Option Content) → without_reason x ≡ Some (says a) → (o ≡ a) → without_reason (latest_content o x (rows_among says (range_with_len (a + 1) n))) ≡ Some (says o)
     at_here x e is =
-        ap as_said (kept_past o (a + 1) x (rows_among says (range_with_len (a + 1) n)) (omega (arith, is)) (rise_among says (a + 1) n)) ∙ e ∙ ap (λ (k : ℕ). Some (says k)) (sym is)
+        ap without_reason (kept_past o (a + 1) x (rows_among says (range_with_len (a + 1) n)) (omega (arith, is)) (rise_among says (a + 1) n)) ∙ e ∙ ap (λ (k : ℕ). Some (says k)) (sym is)
 
     at_test : (c : Content) → says a ≡ Ok c → (b : Bool) → begins says a ≡ b
-        → (begins says a ≡ true → a + 1 ≤ o → as_said (latest_content o (Some c) (rows_among says (range_with_len (a + 1) n))) ≡ Some (says o))
-        → (begins says a ≡ false → a + 1 ≤ o → as_said (latest_content o found (rows_among says (range_with_len (a + 1) n))) ≡ Some (says o))
-        → as_said (latest_content o found (rows_among says (range_with_len a (suc n)))) ≡ Some (says o)
+        → (begins says a ≡ true → a + 1 ≤ o → without_reason (latest_content o (Some c) (rows_among says (range_with_len (a + 1) n))) ≡ Some (says o))
+        → (begins says a ≡ false → a + 1 ≤ o → without_reason (latest_content o found (rows_among says (range_with_len (a + 1) n))) ≡ Some (says o))
+        → without_reason (latest_content o found (rows_among says (range_with_len a (suc n)))) ≡ Some (says o)
     at_test c said true e begun other =
-        ap (λ (xs : List Row). as_said (latest_content o found xs)) (takes says a n c e said) ∙ ap as_said (taken o a c found (rows_among says (range_with_len (a + 1) n)) le)
+        ap (λ (xs : List Row). without_reason (latest_content o found xs)) (takes says a n c e said) ∙ ap without_reason (taken o a c found (rows_among says (range_with_len (a + 1) n)) le)
         ∙ elim (cases_lt a o) [
           | inl above ↦ begun e (omega (arith, above))
           | inr not_above ↦ at_here (Some c) (ap (λ (x : Result Content Reason). Some x) (sym said)) (omega (arith, not_above, le))
         ]
     at_test c said false e begun other =
-        ap (λ (xs : List Row). as_said (latest_content o found xs)) (skips says a n e)
+        ap (λ (xs : List Row). without_reason (latest_content o found xs)) (skips says a n e)
         ∙ elim (cases_lt a o) [
           | inl above ↦ other e (omega (arith, above))
           | inr not_above ↦ at_here found (found_before says a found before e) (omega (arith, not_above, le))
         ]
 
 -- if there is a content at each offset below the size, the rows have it there
-pub row_said : (says : Saying) (size : ℕ) → ((o : ℕ) → o < size → SaysContent (says o)) → (o : ℕ) → o < size → as_said (option_map (λ (r : Row). r.content) (row_at o (rows_of says size))) ≡ Some (says o)
+pub row_said : (says : ContentsByOffset) (size : ℕ) → ((o : ℕ) → o < size → SaysContent (says o)) → (o : ℕ) → o < size → without_reason (option_map (λ (r : Row). r.content) (row_at o (rows_of says size))) ≡ Some (says o)
 unfolding rows_of
 row_said says size all o lt =
-    ap as_said (found_is o 0 (rows_among says (range_with_len 0 size)) (rise_among says 0 size))
+    ap without_reason (found_is o 0 (rows_among says (range_with_len 0 size)) (rise_among says 0 size))
     ∙ latest_said says 0 size None refl (λ p le low. all p (omega (arith, low))) o (omega arith) (omega (arith, lt))

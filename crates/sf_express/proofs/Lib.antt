@@ -8,6 +8,6 @@ pub mod Runs
 pub mod ByOffsets
 pub mod Found
 pub mod Running
-pub mod Said
+pub mod RangesOfRows
 pub mod Column
 pub mod AsRanges

@@ -16,40 +16,40 @@ use Rattle.sf_express.specs.declared.list_forms.ExpressFault.{ExpressFault}
 use Rattle.sf_express.specs.declared.list_forms.ExpressFault.TheVariants.{Omit, NoMemory}
 use Rattle.sf_express.specs.Rules.{content_of}
 use Rattle.sf_express.specs.Expressed.{◌>>=◌, reason_of, row_from, unless_repeated, expressed_rows, with_rows, function_by, Gives}
-use Rattle.sf_express.specs.Offsets.{said, IsSayable, IsOmission, Omits}
+use Rattle.sf_express.specs.Offsets.{content_or_reason, CanBeExpressed, IsOmission, Omits}
 use Rattle.sf_express.proofs.Same.{rows_past}
 
 record FirstIs (arch : Arch) (least : ℕ) (found : Option DwRow) (rows : List DwRow) (reason : Reason) (offset : Option ℕ) : Type 0 where
   at : ℕ
   is : offset ≡ Some at
   from : least ≤ at
-  there : said arch (latest_at at found rows) ≡ Some (Err reason)
-  before : (p : ℕ) → p < at → IsSayable (said arch (latest_at p found rows))
+  there : content_or_reason arch (latest_at at found rows) ≡ Some (Err reason)
+  before : (p : ℕ) → p < at → CanBeExpressed (content_or_reason arch (latest_at p found rows))
 
 abbrev FirstOn : Arch → ℕ → Option DwRow → List DwRow → Result (List Row) Omission → Type 0
 FirstOn arch least found rows (Ok kept) = Unit {0}
 FirstOn arch least found rows (Err omission) = FirstIs arch least found rows omission.reason omission.offset
 
-taken : (arch : Arch) (p : ℕ) (r : DwRow) (rows : List DwRow) (found : Option DwRow) → r.start ≤ p → said arch (latest_at p found (r ∷ rows)) ≡ said arch (latest_at p (Some r) rows)
-taken arch p r rows found le = ap (λ (b : Bool). said arch (latest_at p (cond b (Some r) found) rows)) (le-leb r.start p le)
+taken : (arch : Arch) (p : ℕ) (r : DwRow) (rows : List DwRow) (found : Option DwRow) → r.start ≤ p → content_or_reason arch (latest_at p found (r ∷ rows)) ≡ content_or_reason arch (latest_at p (Some r) rows)
+taken arch p r rows found le = ap (λ (b : Bool). content_or_reason arch (latest_at p (cond b (Some r) found) rows)) (le-leb r.start p le)
 
-passed : (arch : Arch) (p : ℕ) (r : DwRow) (rows : List DwRow) (found : Option DwRow) → RiseFrom (r.start + 1) rows → p < r.start → said arch (latest_at p found (r ∷ rows)) ≡ said arch found
-passed arch p r rows found rise lt = let all : RiseFrom r.start (r ∷ rows) = (omega arith, rise) in ap (said arch) (rows_past p r.start found (r ∷ rows) lt all)
+passed : (arch : Arch) (p : ℕ) (r : DwRow) (rows : List DwRow) (found : Option DwRow) → RiseFrom (r.start + 1) rows → p < r.start → content_or_reason arch (latest_at p found (r ∷ rows)) ≡ content_or_reason arch found
+passed arch p r rows found rise lt = let all : RiseFrom r.start (r ∷ rows) = (omega arith, rise) in ap (content_or_reason arch) (rows_past p r.start found (r ∷ rows) lt all)
 
-refused_here : (arch : Arch) (least : ℕ) (found : Option DwRow) (r : DwRow) (rows : List DwRow) (reason : Reason) → content_of arch r ≡ Err reason → RiseFrom least (r ∷ rows) → IsSayable (said arch found) → FirstIs arch least found (r ∷ rows) reason (Some r.start)
+refused_here : (arch : Arch) (least : ℕ) (found : Option DwRow) (r : DwRow) (rows : List DwRow) (reason : Reason) → content_of arch r ≡ Err reason → RiseFrom least (r ∷ rows) → CanBeExpressed (content_or_reason arch found) → FirstIs arch least found (r ∷ rows) reason (Some r.start)
 refused_here arch least found r rows reason e rise ok = record {
   at = r.start;
   is = refl;
   from = rise.0;
-  there = taken arch r.start r rows found (omega arith) ∙ ap (said arch) (rows_past r.start (r.start + 1) (Some r) rows (omega arith) rise.1) ∙ ap (λ (x : Result Content Reason). Some x) e;
-  before = λ p lt. subst IsSayable (sym (passed arch p r rows found rise.1 lt)) ok;
+  there = taken arch r.start r rows found (omega arith) ∙ ap (content_or_reason arch) (rows_past r.start (r.start + 1) (Some r) rows (omega arith) rise.1) ∙ ap (λ (x : Result Content Reason). Some x) e;
+  before = λ p lt. subst CanBeExpressed (sym (passed arch p r rows found rise.1 lt)) ok;
 }
 
-before_later : (arch : Arch) (p : ℕ) (found : Option DwRow) (r : DwRow) (rows : List DwRow) (below : Bool) → nat_le r.start p ≡ below → RiseFrom (r.start + 1) rows → IsSayable (said arch found) → IsSayable (said arch (latest_at p (Some r) rows)) → IsSayable (said arch (latest_at p found (r ∷ rows)))
-before_later arch p found r rows true test rise ok h = subst IsSayable (sym (taken arch p r rows found (leb-true r.start p test))) h
-before_later arch p found r rows false test rise ok h = subst IsSayable (sym (passed arch p r rows found rise (leb-false r.start p test))) ok
+before_later : (arch : Arch) (p : ℕ) (found : Option DwRow) (r : DwRow) (rows : List DwRow) (below : Bool) → nat_le r.start p ≡ below → RiseFrom (r.start + 1) rows → CanBeExpressed (content_or_reason arch found) → CanBeExpressed (content_or_reason arch (latest_at p (Some r) rows)) → CanBeExpressed (content_or_reason arch (latest_at p found (r ∷ rows)))
+before_later arch p found r rows true test rise ok h = subst CanBeExpressed (sym (taken arch p r rows found (leb-true r.start p test))) h
+before_later arch p found r rows false test rise ok h = subst CanBeExpressed (sym (passed arch p r rows found rise (leb-false r.start p test))) ok
 
-refused_later : (arch : Arch) (least : ℕ) (found : Option DwRow) (r : DwRow) (rows : List DwRow) (reason : Reason) (offset : Option ℕ) → RiseFrom least (r ∷ rows) → IsSayable (said arch found) → FirstIs arch (r.start + 1) (Some r) rows reason offset → FirstIs arch least found (r ∷ rows) reason offset
+refused_later : (arch : Arch) (least : ℕ) (found : Option DwRow) (r : DwRow) (rows : List DwRow) (reason : Reason) (offset : Option ℕ) → RiseFrom least (r ∷ rows) → CanBeExpressed (content_or_reason arch found) → FirstIs arch (r.start + 1) (Some r) rows reason offset → FirstIs arch least found (r ∷ rows) reason offset
 refused_later arch least found r rows reason offset rise ok h =
     let first : least ≤ r.start = rise.0 in
     let from : r.start + 1 ≤ h.at = h.from in
@@ -61,16 +61,16 @@ refused_later arch least found r rows reason offset rise ok h =
       before = λ p lt. before_later arch p found r rows (nat_le r.start p) refl rise.1 ok (h.before p lt);
     }
 
-on_row : (arch : Arch) (least : ℕ) (found : Option DwRow) (r : DwRow) (rows : List DwRow) (last : Option Content) (content : Result Content Reason) (next : Row → Result (List Row) Omission) → content_of arch r ≡ content → RiseFrom least (r ∷ rows) → IsSayable (said arch found)
-    → ((row : Row) → IsSayable (said arch (Some r)) → FirstOn arch (r.start + 1) (Some r) rows (next row)) → FirstOn arch least found (r ∷ rows) (row_from r.start content >>= λ row. (next row >>= λ kept. Ok (unless_repeated last row kept)))
+on_row : (arch : Arch) (least : ℕ) (found : Option DwRow) (r : DwRow) (rows : List DwRow) (last : Option Content) (content : Result Content Reason) (next : Row → Result (List Row) Omission) → content_of arch r ≡ content → RiseFrom least (r ∷ rows) → CanBeExpressed (content_or_reason arch found)
+    → ((row : Row) → CanBeExpressed (content_or_reason arch (Some r)) → FirstOn arch (r.start + 1) (Some r) rows (next row)) → FirstOn arch least found (r ∷ rows) (row_from r.start content >>= λ row. (next row >>= λ kept. Ok (unless_repeated last row kept)))
 on_row arch least found r rows last (Err reason) next e rise ok go = refused_here arch least found r rows reason e rise ok
-on_row arch least found r rows last (Ok c) next e rise ok go = at_rest (next (record { start = r.start; content = c })) (go (record { start = r.start; content = c }) (subst (λ (x : Result Content Reason). IsSayable (Some x)) (sym e) tt))
+on_row arch least found r rows last (Ok c) next e rise ok go = at_rest (next (record { start = r.start; content = c })) (go (record { start = r.start; content = c }) (subst (λ (x : Result Content Reason). CanBeExpressed (Some x)) (sym e) tt))
   where
     at_rest : (rest : Result (List Row) Omission) → FirstOn arch (r.start + 1) (Some r) rows rest → FirstOn arch least found (r ∷ rows) (rest >>= λ kept. Ok (unless_repeated last (record { start = r.start; content = c }) kept))
     at_rest (Ok kept) h = tt
     at_rest (Err omission) h = refused_later arch least found r rows omission.reason omission.offset rise ok h
 
-first_on : (arch : Arch) (least : ℕ) (found : Option DwRow) (rows : List DwRow) (last : Option Content) → RiseFrom least rows → IsSayable (said arch found) → FirstOn arch least found rows (expressed_rows arch last rows)
+first_on : (arch : Arch) (least : ℕ) (found : Option DwRow) (rows : List DwRow) (last : Option Content) → RiseFrom least rows → CanBeExpressed (content_or_reason arch found) → FirstOn arch least found rows (expressed_rows arch last rows)
 unfolding expressed_rows
 first_on arch least found [] last rise ok = tt
 first_on arch least found (r ∷ rows) last rise ok = on_row arch least found r rows last (content_of arch r) (λ row. expressed_rows arch (Some row.content) rows) refl rise ok (λ row fine. first_on arch (r.start + 1) (Some r) rows (Some row.content) rise.1 fine)

@@ -20,7 +20,7 @@ use Rattle.cfa_machine.specs.RowList.{RiseFrom, sign_fits, AreRows}
 use Rattle.cfa_machine.specs.RowAtOffset.{latest_at}
 use Rattle.sf_express.specs.Rules.{content_of}
 use Rattle.sf_express.specs.Expressed.{◌>>=◌, same_base, same_ra, same_fp, same_sign, same_content, repeats, row_from, unless_repeated, expressed_rows}
-use Rattle.sf_express.specs.Offsets.{said, latest_content, as_said, SayTheSame}
+use Rattle.sf_express.specs.Offsets.{content_or_reason, latest_content, without_reason, HaveSameContents}
 use Rattle.sf_express.proofs.Writable.{made, StartsRise, KeptFit, kept_fit}
 
 -- ---- the test of contents
@@ -97,7 +97,7 @@ kept_past o least found (r ∷ rows) lt h =
 
 -- ---- the loop's rows
 abbrev SaysOn : Arch → ℕ → Option DwRow → List DwRow → Option Content → Result (List Row) Omission → Type 0
-SaysOn arch o found rows last (Ok kept) = said arch (latest_at o found rows) ≡ as_said (latest_content o last kept)
+SaysOn arch o found rows last (Ok kept) = content_or_reason arch (latest_at o found rows) ≡ without_reason (latest_content o last kept)
 SaysOn arch o found rows last (Err e) = Unit {0}
 
 kept_in_front : (o start : ℕ) (c : Content) (last : Option Content) (kept : List Row) → start ≤ o → latest_content o last (unless_repeated last (record { start = start; content = c }) kept) ≡ latest_content o (Some c) kept
@@ -111,22 +111,22 @@ on_below : (arch : Arch) (o : ℕ) (r : DwRow) (rows : List DwRow) (found : Opti
     → SaysOn arch o found (r ∷ rows) last (given >>= λ kept. Ok (unless_repeated last (record { start = r.start; content = c }) kept))
 on_below arch o r rows found last c (Err e) le h = tt
 on_below arch o r rows found last c (Ok kept) le h =
-    ap (λ (b : Bool). said arch (latest_at o (cond b (Some r) found) rows)) (le-leb r.start o le) ∙ h ∙ sym (ap as_said (kept_in_front o r.start c last kept le))
+    ap (λ (b : Bool). content_or_reason arch (latest_at o (cond b (Some r) found) rows)) (le-leb r.start o le) ∙ h ∙ sym (ap without_reason (kept_in_front o r.start c last kept le))
 
-past_all : (arch : Arch) (o least : ℕ) (found : Option DwRow) (rows : List DwRow) (last : Option Content) (given : Result (List Row) Omission) → o < least → RiseFrom least rows → KeptFit arch least given → said arch found ≡ as_said last → SaysOn arch o found rows last given
+past_all : (arch : Arch) (o least : ℕ) (found : Option DwRow) (rows : List DwRow) (last : Option Content) (given : Result (List Row) Omission) → o < least → RiseFrom least rows → KeptFit arch least given → content_or_reason arch found ≡ without_reason last → SaysOn arch o found rows last given
 past_all arch o least found rows last (Err e) lt rise fit e0 = tt
-past_all arch o least found rows last (Ok kept) lt rise fit e0 = ap (said arch) (rows_past o least found rows lt rise) ∙ e0 ∙ sym (ap as_said (kept_past o least last kept lt fit.rise))
+past_all arch o least found rows last (Ok kept) lt rise fit e0 = ap (content_or_reason arch) (rows_past o least found rows lt rise) ∙ e0 ∙ sym (ap without_reason (kept_past o least last kept lt fit.rise))
 
 on_row : (arch : Arch) (o : ℕ) (r : DwRow) (rows : List DwRow) (found : Option DwRow) (last : Option Content) (content : Result Content Reason) → content_of arch r ≡ content → r.start ≤ o → ((c : Content) → content_of arch r ≡ Ok c → SaysOn arch o (Some r) rows (Some c) (expressed_rows arch (Some c) rows))
     → SaysOn arch o found (r ∷ rows) last (row_from r.start content >>= λ row. (expressed_rows arch (Some row.content) rows >>= λ kept. Ok (unless_repeated last row kept)))
 on_row arch o r rows found last (Ok c) e le go = on_below arch o r rows found last c (expressed_rows arch (Some c) rows) le (go c e)
 on_row arch o r rows found last (Err reason) e le go = tt
 
-no_more : (arch : Arch) (o : ℕ) (found : Option DwRow) (last : Option Content) → said arch found ≡ as_said last → SaysOn arch o found [] last (expressed_rows arch last [])
+no_more : (arch : Arch) (o : ℕ) (found : Option DwRow) (last : Option Content) → content_or_reason arch found ≡ without_reason last → SaysOn arch o found [] last (expressed_rows arch last [])
 unfolding expressed_rows
 no_more arch o found last e = e
 
-one_more : (arch : Arch) (o least : ℕ) (r : DwRow) (rows : List DwRow) (found : Option DwRow) (last : Option Content) (below : Bool) → nat_le r.start o ≡ below → RiseFrom least (r ∷ rows) → All (λ (x : DwRow). IsTrue (sign_fits arch x.signed)) (r ∷ rows) → said arch found ≡ as_said last
+one_more : (arch : Arch) (o least : ℕ) (r : DwRow) (rows : List DwRow) (found : Option DwRow) (last : Option Content) (below : Bool) → nat_le r.start o ≡ below → RiseFrom least (r ∷ rows) → All (λ (x : DwRow). IsTrue (sign_fits arch x.signed)) (r ∷ rows) → content_or_reason arch found ≡ without_reason last
     → ((c : Content) → content_of arch r ≡ Ok c → SaysOn arch o (Some r) rows (Some c) (expressed_rows arch (Some c) rows)) → SaysOn arch o found (r ∷ rows) last (expressed_rows arch last (r ∷ rows))
 unfolding expressed_rows
 one_more arch o least r rows found last true test rise signs e go = on_row arch o r rows found last (content_of arch r) refl (leb-true r.start o test) go
@@ -134,10 +134,10 @@ one_more arch o least r rows found last false test rise signs e go =
     let itself : RiseFrom r.start (r ∷ rows) = (omega arith, rise.1) in
     past_all arch o r.start found (r ∷ rows) last (expressed_rows arch last (r ∷ rows)) (leb-false r.start o test) itself (kept_fit arch r.start last (r ∷ rows) itself signs) e
 
-says_on : (arch : Arch) (o least : ℕ) (found : Option DwRow) (rows : List DwRow) (last : Option Content) → RiseFrom least rows → All (λ (r : DwRow). IsTrue (sign_fits arch r.signed)) rows → said arch found ≡ as_said last → SaysOn arch o found rows last (expressed_rows arch last rows)
+says_on : (arch : Arch) (o least : ℕ) (found : Option DwRow) (rows : List DwRow) (last : Option Content) → RiseFrom least rows → All (λ (r : DwRow). IsTrue (sign_fits arch r.signed)) rows → content_or_reason arch found ≡ without_reason last → SaysOn arch o found rows last (expressed_rows arch last rows)
 says_on arch o least found [] last rise signs e = no_more arch o found last e
 says_on arch o least found (r ∷ rows) last rise signs e = one_more arch o least r rows found last (nat_le r.start o) refl rise signs e
     (λ c h. says_on arch o (r.start + 1) (Some r) rows (Some c) rise.1 (All-tail (λ (x : DwRow). IsTrue (sign_fits arch x.signed)) r rows signs) (ap (λ (x : Result Content Reason). Some x) h))
 
-pub kept_say_the_same : (arch : Arch) (size : ℕ) (rows : List DwRow) (kept : List Row) → AreRows arch size rows → expressed_rows arch None rows ≡ Ok kept → SayTheSame arch rows kept
+pub kept_say_the_same : (arch : Arch) (size : ℕ) (rows : List DwRow) (kept : List Row) → AreRows arch size rows → expressed_rows arch None rows ≡ Ok kept → HaveSameContents arch rows kept
 kept_say_the_same arch size rows kept h e = λ o. subst (SaysOn arch o None rows None) e (says_on arch o 0 None rows None h.rise h.signs refl)

@@ -17,30 +17,30 @@ content_in (Ok content) = Some content
 content_in (Err reason) = None
 
 -- the content at an offset: that of the last range that begins by then, or what was found before
-abbrev pub said_by : (offset : ℕ) → (found : Option (Option Content)) → List ContentRange → Option (Option Content)
-said_by offset found [] = found
-said_by offset found (p ∷ ranges) = if nat_le p.start offset then said_by offset (Some p.content) ranges else found
+abbrev pub content_by : (offset : ℕ) → (found : Option (Option Content)) → List ContentRange → Option (Option Content)
+content_by offset found [] = found
+content_by offset found (p ∷ ranges) = if nat_le p.start offset then content_by offset (Some p.content) ranges else found
 
 -- these ranges have at each offset below the size the content that holds there
-abbrev pub RangesSay : (size : ℕ) → List ContentRange → (says : (offset : ℕ) → Option Content) → Type 0
-RangesSay size ranges says = (offset : ℕ) → offset < size → said_by offset None ranges ≡ Some (says offset)
+abbrev pub RangesHave : (size : ℕ) → List ContentRange → (says : (offset : ℕ) → Option Content) → Type 0
+RangesHave size ranges says = (offset : ℕ) → offset < size → content_by offset None ranges ≡ Some (says offset)
 
 -- ---- ranges, from rows
 -- whether two rows have the same content, or none
-abbrev pub same_saying : Option Content → Option Content → Bool
-same_saying None None = true
-same_saying None (Some content) = false
-same_saying (Some last) None = false
-same_saying (Some last) (Some content) = same_content last content
+abbrev pub same_if_any : Option Content → Option Content → Bool
+same_if_any None None = true
+same_if_any None (Some content) = false
+same_if_any (Some last) None = false
+same_if_any (Some last) (Some content) = same_content last content
 
 -- a row has the content of the row before
-abbrev pub says_again : (last : Option (Option Content)) → Option Content → Bool
-says_again None content = false
-says_again (Some last) content = same_saying last content
+abbrev pub is_as_before : (last : Option (Option Content)) → Option Content → Bool
+is_as_before None content = false
+is_as_before (Some last) content = same_if_any last content
 
 -- a range is kept unless its content is that of the row before
 abbrev pub unless_again : (last : Option (Option Content)) → ContentRange → List ContentRange → List ContentRange
-unless_again last range ranges = if says_again last range.content then ranges else range ∷ ranges
+unless_again last range ranges = if is_as_before last range.content then ranges else range ∷ ranges
 
 -- a row as a range
 abbrev pub range_of : Arch → DwRow → ContentRange
@@ -78,7 +78,7 @@ RangesDiffer last [] = Unit {0}
 RangesDiffer last (p ∷ ranges) = (last ≢ Some p.content) × RangesDiffer (Some p.content) ranges
 
 -- the content of a function of this size, which is not 0, with a range where the content is not that before
-pub record AreSaidBy (size : ℕ) (says : (offset : ℕ) → Option Content) (ranges : List ContentRange) : Type 0 where
+pub record AreRangesOf (size : ℕ) (says : (offset : ℕ) → Option Content) (ranges : List ContentRange) : Type 0 where
   pub are : AreRanges size ranges
-  pub say : RangesSay size ranges says
+  pub say : RangesHave size ranges says
   pub differ : RangesDiffer None ranges

@@ -15,13 +15,13 @@ use Rattle.cfa_machine.specs.RowAtOffset.{latest_at}
 use Rattle.sf_express.specs.Rules.{content_of}
 
 -- the content of a row of the call frame instructions, or the reason against it, if there is a row
-abbrev pub said : Arch → Option DwRow → Option (Result Content Reason)
-said arch None = None
-said arch (Some r) = Some (content_of arch r)
+abbrev pub content_or_reason : Arch → Option DwRow → Option (Result Content Reason)
+content_or_reason arch None = None
+content_or_reason arch (Some r) = Some (content_of arch r)
 
 -- the content at an offset, or the reason against it, by the call frame instructions' rows
-abbrev pub said_at : Arch → ℕ → List DwRow → Option (Result Content Reason)
-said_at arch o rows = said arch (latest_at o None rows)
+abbrev pub content_at_offset : Arch → ℕ → List DwRow → Option (Result Content Reason)
+content_at_offset arch o rows = content_or_reason arch (latest_at o None rows)
 
 -- the content at an offset, by SFrame's rows
 abbrev pub latest_content : ℕ → Option Content → List Row → Option Content
@@ -29,24 +29,24 @@ latest_content o found [] = found
 latest_content o found (r ∷ rows) = latest_content o (if nat_le r.start o then Some r.content else found) rows
 
 -- a content, as one without a reason against it
-abbrev pub as_said : Option Content → Option (Result Content Reason)
-as_said None = None
-as_said (Some c) = Some (Ok c)
+abbrev pub without_reason : Option Content → Option (Result Content Reason)
+without_reason None = None
+without_reason (Some c) = Some (Ok c)
 
 -- at every offset SFrame's rows have the content of the call frame instructions' rows
-abbrev pub SayTheSame : Arch → List DwRow → List Row → Type 0
-SayTheSame arch rows kept = (o : ℕ) → said_at arch o rows ≡ as_said (latest_content o None kept)
+abbrev pub HaveSameContents : Arch → List DwRow → List Row → Type 0
+HaveSameContents arch rows kept = (o : ℕ) → content_at_offset arch o rows ≡ without_reason (latest_content o None kept)
 
 -- no row, or one that SFrame can express
-abbrev pub IsSayable : Option (Result Content Reason) → Type 0
-IsSayable None = Unit {0}
-IsSayable (Some (Ok c)) = Unit {0}
-IsSayable (Some (Err reason)) = ⊥
+abbrev pub CanBeExpressed : Option (Result Content Reason) → Type 0
+CanBeExpressed None = Unit {0}
+CanBeExpressed (Some (Ok c)) = Unit {0}
+CanBeExpressed (Some (Err reason)) = ⊥
 
 -- the reason of the row at this offset, which is the least offset with a reason
 pub record IsFirstReason (arch : Arch) (rows : List DwRow) (reason : Reason) (o : ℕ) : Type 0 where
-  pub there : said_at arch o rows ≡ Some (Err reason)
-  pub before : (p : ℕ) → p < o → IsSayable (said_at arch p rows)
+  pub there : content_at_offset arch o rows ≡ Some (Err reason)
+  pub before : (p : ℕ) → p < o → CanBeExpressed (content_at_offset arch p rows)
 
 -- an omission has the first reason of the function as a whole, and no offset, or else the first of its rows
 abbrev pub IsOmission : Arch → FdeFacts → List DwRow → Reason → Option ℕ → Type 0

@@ -7,7 +7,7 @@ ghost use Rattle.cfa_machine.specs.Pass.{Gives};
 ghost use Rattle.sf_express.specs.declared.content_ranges.ContentRange.{ContentRange as range};
 ghost use Rattle.sf_express.specs.Rules.{content_of};
 ghost use Rattle.sf_express.specs.ContentRanges as spec;
-ghost use Rattle.sf_express.specs.ContentRanges.{AreRanges, RangesDiffer, said_by};
+ghost use Rattle.sf_express.specs.ContentRanges.{AreRanges, RangesDiffer, content_by};
 ghost use Rattle.sf_express.specs.Run.{on_rows};
 
 use crate::function::is_same;
@@ -28,8 +28,8 @@ pub struct ContentRange {
 
 // Returns whether two rows have the same content.
 #[inline(always)]
-fn same_saying(last: Option<Content>, content: Option<Content>) -> bool
-    ensures { result ≡ spec.same_saying last content }
+fn same_if_any(last: Option<Content>, content: Option<Content>) -> bool
+    ensures { result ≡ spec.same_if_any last content }
 {
     match last {
         None => content.is_none(),
@@ -42,12 +42,12 @@ fn same_saying(last: Option<Content>, content: Option<Content>) -> bool
 
 // Returns whether a row has the content of the row before.
 #[inline(always)]
-fn says_again(last: Option<Option<Content>>, content: Option<Content>) -> bool
-    ensures { result ≡ spec.says_again last content }
+fn is_as_before(last: Option<Option<Content>>, content: Option<Content>) -> bool
+    ensures { result ≡ spec.is_as_before last content }
 {
     match last {
         None => false,
-        Some(last) => same_saying(last, content),
+        Some(last) => same_if_any(last, content),
     }
 }
 
@@ -60,7 +60,7 @@ fn append(
 ) -> Result<(), AllocError>
     ensures { OnOk result (ranges.new.items ≡ ranges.old.items ++ spec.unless_again last range []) }
 {
-    if !says_again(last, range.content) {
+    if !is_as_before(last, range.content) {
         ranges.push(range)?;
     }
     Ok(())
@@ -140,8 +140,8 @@ pub fn range_at(ranges: &[ContentRange], size: u64, offset: u64) -> (Option<Cont
     requires below { offset < size }
     ensures from { offset ≤ result.1 }
     ensures within { result.1 < size }
-    ensures says { (o : ℕ) → offset ≤ o → o ≤ result.1 → said_by o None ranges.now ≡ Some result.0 }
-    ensures after { RangesDiffer None ranges.now → result.1 + 1 < size → said_by (result.1 + 1) None ranges.now ≢ Some result.0 }
+    ensures says { (o : ℕ) → offset ≤ o → o ≤ result.1 → content_by o None ranges.now ≡ Some result.0 }
+    ensures after { RangesDiffer None ranges.now → result.1 + 1 < size → content_by (result.1 + 1) None ranges.now ≢ Some result.0 }
 {
     let place = last_begun(ranges, offset);
     let end = if place + 1 < ranges.len() {

@@ -6,8 +6,8 @@ ghost use Rattle.sf_model.specs.Function.{IsWritable, key_fits};
 ghost use Rattle.cfa_machine.specs.RowList.{AreRows};
 ghost use Rattle.sf_express.specs.declared.list_forms.ExpressFault.TheVariants.{NoMemory};
 ghost use Rattle.sf_express.specs.Rules.{content_of};
-ghost use Rattle.sf_express.specs.Offsets.{Omits, SayTheSame, StandAtChanges};
-ghost use Rattle.sf_express.specs.Runs.{AreSaid, Saying, function_of};
+ghost use Rattle.sf_express.specs.Offsets.{Omits, HaveSameContents, StandAtChanges};
+ghost use Rattle.sf_express.specs.Runs.{AreContentsOf, ContentsByOffset, function_of};
 ghost use Rattle.sf_express.specs.Expressed.{row_by, unless_repeated, Makes, Gives, expressed_rows, function_by};
 
 use crate::function::{function_reason, is_repeated};
@@ -110,7 +110,7 @@ fn function_with(facts: &FdeFacts, rows: Rows) -> Func
 fn whole(alloc: Global, arch: Arch, facts: &FdeFacts, rows: &[DwRow]) -> Result<Func, ExpressFault>
     requires { AreRows arch facts.now.size rows.now }
     ensures writable { IfOk result (λ f. facts.now.start + facts.now.size ≤ 2 ^ 64 → IsTrue (key_fits arch facts.now.key) → IsWritable arch f) }
-    ensures same { IfOk result (λ f. SayTheSame arch rows.now f.rows) }
+    ensures same { IfOk result (λ f. HaveSameContents arch rows.now f.rows) }
     ensures changes { IfOk result (λ f. StandAtChanges f.rows) }
     ensures exact { Gives (λ f. f) result (function_by arch facts.now rows.now) }
 {
@@ -139,13 +139,13 @@ pub fn express(
     // A section can hold what is kept.
     ensures writable { IfOk result (λ f. facts.now.start + facts.now.size ≤ 2 ^ 64 → IsTrue (key_fits arch facts.now.key) → IsWritable arch f) }
     // The function has at every offset the content of the rows.
-    ensures same { IfOk result (λ f. SayTheSame arch rows.now f.rows) }
+    ensures same { IfOk result (λ f. HaveSameContents arch rows.now f.rows) }
     // The function has a row at 0 and where the content changes, and no other.
     ensures changes { IfOk result (λ f. StandAtChanges f.rows) }
     // An omission is the first reason.
     ensures omits { Omits arch facts.now rows.now result }
     // The result is the definition's function by the content at each offset, or its first omission.
-    ensures means { (says : Saying) → AreSaid arch facts.now.size rows.now says → Gives (λ f. f) result (function_of arch facts.now says) }
+    ensures means { (says : ContentsByOffset) → AreContentsOf arch facts.now.size rows.now says → Gives (λ f. f) result (function_of arch facts.now says) }
     // Start, size, key and rows, as one pass gives them.
     ensures exact { Gives (λ f. f) result (function_by arch facts.now rows.now) }
 {

@@ -9,10 +9,10 @@ ghost use Rattle.cfa_insn.specs.Listing.{Item};
 ghost use Rattle.cfa_machine.specs.declared.columns.Columns.{Columns};
 ghost use Rattle.cfa_machine.specs.declared.row.DwRow.{DwRow};
 ghost use Rattle.cfa_machine.specs.Columns.{row_from};
-ghost use Rattle.cfa_machine.specs.RowAtOffset.{row_at_offset, SayAll};
+ghost use Rattle.cfa_machine.specs.RowAtOffset.{row_at_offset, MatchInstructions};
 ghost use Rattle.cfa_machine.specs.FullRow.{FullRow, columns_of};
 ghost use Rattle.sf_express.specs.Rules.{content_of};
-ghost use Rattle.sf_express.specs.Offsets.{latest_content, SayTheSame};
+ghost use Rattle.sf_express.specs.Offsets.{latest_content, HaveSameContents};
 ghost use Rattle.sf_express.specs.Alike.{RecoverAlike, ColumnsRecoverAlike, FoundAlike};
 
 /// States that a row that SFrame Version 2 can express recovers by its rules (DWARF 5, section 6.4.1) what
@@ -27,5 +27,5 @@ pub fn rows_recover_alike()
 /// States that at each offset of a function the kept rows have a content, which recovers what the full row
 /// there recovers.
 pub fn functions_recover_alike()
-    ensures { (arch : Arch) (code : ℕ) (factor : ℤ) (size : ℕ) (cie fde : List Item) (rows : List DwRow) (kept : List Row) → SayAll arch code factor size cie fde rows → SayTheSame arch rows kept → (o : ℕ) → o < size → FoundAlike arch (row_at_offset code factor cie fde o) (latest_content o None kept) }
+    ensures { (arch : Arch) (code : ℕ) (factor : ℤ) (size : ℕ) (cie fde : List Item) (rows : List DwRow) (kept : List Row) → MatchInstructions arch code factor size cie fde rows → HaveSameContents arch rows kept → (o : ℕ) → o < size → FoundAlike arch (row_at_offset code factor cie fde o) (latest_content o None kept) }
 {}

@@ -8,6 +8,6 @@ lent_rest None = []
 lent_rest (Some rest) = rest.now
 
 -- the contents of the lent files, which are known until a file is created
-abbrev pub told_until : Bool → List (List ℕ × List ℕ) → Option (List (List ℕ × List ℕ))
-told_until true files = None
-told_until false files = Some files
+abbrev pub known_until : Bool → List (List ℕ × List ℕ) → Option (List (List ℕ × List ℕ))
+known_until true files = None
+known_until false files = Some files

@@ -2,7 +2,7 @@
 ghost use Rattle.std.specs.Prelude.{◌≡◌, ◌<◌, ◌≤◌, ◌+◌, ◌-◌, ◌^◌, [], true, false, min, length, take, is_some, Some, None, Ok, IfOk, OnErr, IsTrue};
 ghost use Rattle.sf_base.specs.Contents.{Grows, Unchanged};
 ghost use Rattle.sf_base.specs.Faults.{Cause};
-ghost use Rattle.sf_fakes.specs.Lent.{lent_rest, told_until};
+ghost use Rattle.sf_fakes.specs.Lent.{lent_rest, known_until};
 ghost use Rattle.sf_fakes.specs.Pairs.{pairs_of};
 
 use crate::copying::{bytes_from, copy_front};
@@ -47,7 +47,7 @@ impl<'a> SureFiles<'a> {
 }
 
 impl<'a> Files for SureFiles<'a> {
-    ghost seen = { λ files. record { contents = told_until files.created (pairs_of files.names.now); created = files.created; created_name = []; read_faults = 0; write_faults = 0; failed_name = None } };
+    ghost seen = { λ files. record { contents = known_until files.created (pairs_of files.names.now); created = files.created; created_name = []; read_faults = 0; write_faults = 0; failed_name = None } };
 
     ghost opened = { λ files. is_some files.rest };
 
@@ -96,11 +96,11 @@ impl<'a> Files for SureFiles<'a> {
         ensures count { self.new.count ≡ min (self.old.count + length piece.now) (2 ^ 64 - 1) }
         ensures within { IfOk result (λ n. (1 ≤ n) × (n ≤ length piece.now)) }
         ensures grows { IfOk result (λ n. Grows
-            (told_until self.old.created (pairs_of self.old.names.now))
-            (told_until self.new.created (pairs_of self.new.names.now)) [] (take n piece.now)) }
+            (known_until self.old.created (pairs_of self.old.names.now))
+            (known_until self.new.created (pairs_of self.new.names.now)) [] (take n piece.now)) }
         ensures unchanged { OnErr result (Unchanged
-            (told_until self.old.created (pairs_of self.old.names.now))
-            (told_until self.new.created (pairs_of self.new.names.now))) }
+            (known_until self.old.created (pairs_of self.old.names.now))
+            (known_until self.new.created (pairs_of self.new.names.now))) }
         ensures cause { Cause 0 0 result }
         ensures created { self.new.created ≡ self.old.created }
         ensures names { self.new.names ≡ self.old.names }

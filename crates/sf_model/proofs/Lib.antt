@@ -1,5 +1,5 @@
 pub mod Addresses
-pub mod BytesTold
+pub mod BytesDetermined
 pub mod Recoveries
 pub mod RowNumbers
 pub mod RowsSame

@@ -16,7 +16,7 @@ use Rattle.sf_model.specs.Section.{AreBytes, Section, number_in, rows_len, rows_
 use Rattle.sf_model.specs.Tight.{Tight, Narrow, WithoutGaps, LeastWidth, LeastWidths, IsZeroIfPlain, last_start}
 use Rattle.sf_model.proofs.RowNumbers.{below_if}
 use Rattle.sf_model.proofs.RowsSame.{row_same}
-use Rattle.sf_model.proofs.BytesTold.{SameWithin, join, at_one, number_told, run_told, list_told, part_told, signed_told, origin_cancels, not_below}
+use Rattle.sf_model.proofs.BytesDetermined.{SameWithin, join, at_one, number_told, run_told, list_told, part_told, signed_told, origin_cancels, not_below}
 
 true_and_false : (b : Bool) → b ≡ true → b ≡ false → ⊥
 true_and_false b p q = cc

@@ -15,14 +15,14 @@ use Rattle.frame_functions.specs.declared.read_function.Expressed.{Expressed}
 use Rattle.frame_functions.specs.declared.read_function.Expressed.TheVariants as outcome
 use Rattle.frame_functions.specs.ReadFunction.{kept_in, kept_of}
 use Rattle.frame_functions.specs.Functions.{Function}
-use Rattle.frame_functions.specs.Kept.{read_of, facts_of, is_kept, kept_functions, omitted_functions, outcome_by, says_of}
+use Rattle.frame_functions.specs.Kept.{read_of, facts_of, is_kept, kept_functions, omitted_functions, outcome_by, row_contents}
 use Rattle.sf_plt.specs.Plt.{initial_content, is_plt, plt_functions}
 use Rattle.sf_plt.specs.Written.{first_entry, later_entries, pair_by, plt_pair, written_as, written_functions}
 use Rattle.sf_plt.proofs.Form.{plt_form}
 
 -- a kept function as it is expressed
 abbrev pub expressed_of : Function → Func
-expressed_of f = expressed (facts_of f) (says_of f)
+expressed_of f = expressed (facts_of f) (row_contents f)
 
 pub record IsKept (f : Function) : Type 0 where
   pub outcome_is : (read_of f).outcome ≡ outcome.Kept (expressed_of f)
@@ -57,16 +57,16 @@ whole_none : (whole : Option Reason) (row : Option Omission) → whole_or_row wh
 whole_none None row e = refl
 whole_none (Some reason) row e = cc
 
-kept_sized : (f : Function) → omission_of f.arch (facts_of f) (says_of f) ≡ None → 0 < f.size
+kept_sized : (f : Function) → omission_of f.arch (facts_of f) (row_contents f) ≡ None → 0 < f.size
 unfolding omission_of
 kept_sized f e = sized_by (nat_le (2 ^ 32) f.size) (eqb f.column (return_address f.arch)) f.signal f.size (eqb f.size 0) refl
-    (whole_none (reason_of f.arch (facts_of f)) (first_against (says_of f) (range_with_len 0 f.size)) e)
+    (whole_none (reason_of f.arch (facts_of f)) (first_against (row_contents f) (range_with_len 0 f.size)) e)
 
 pub case_of : (f : Function) → Case f
 unfolding function_of
-case_of f = at_omission (omission_of f.arch (facts_of f) (says_of f)) refl
+case_of f = at_omission (omission_of f.arch (facts_of f) (row_contents f)) refl
   where
-    at_omission : (omission : Option Omission) → omission_of f.arch (facts_of f) (says_of f) ≡ omission → Case f
+    at_omission : (omission : Option Omission) → omission_of f.arch (facts_of f) (row_contents f) ≡ omission → Case f
     at_omission None e = kept_case (record {
       outcome_is = ap (λ (x : Option Omission). outcome_by (unless_omitted x (expressed_of f))) e;
       kept = ap is_none e;

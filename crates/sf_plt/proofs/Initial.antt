@@ -11,14 +11,14 @@ use Rattle.cfa_insn.specs.Listing.{Item}
 use Rattle.cfa_machine.specs.declared.columns.Columns.{Columns}
 use Rattle.cfa_machine.specs.declared.fault.MachineFault.{MachineFault}
 use Rattle.cfa_machine.specs.declared.row.DwRow.{DwRow}
-use Rattle.cfa_machine.specs.RowAtOffset.{SayAll, SaysAt, row_at_offset}
+use Rattle.cfa_machine.specs.RowAtOffset.{MatchInstructions, HasColumns, row_at_offset}
 use Rattle.cfa_machine.specs.Columns.{row_from}
 use Rattle.cfa_machine.specs.FirstFault.{first_fault}
 use Rattle.cfa_machine.specs.FullRow.{FullRow, columns_of}
 use Rattle.cfa_machine.specs.Initial.{IsInitial}
 use Rattle.cfa_machine.specs.Pass.{◌>>=◌, rows_by, rows_from}
 use Rattle.cfa_machine.proofs.Faults.{fault_of, rows_by-fault}
-use Rattle.cfa_machine.proofs.Says.{SaysAllIfOk, rows_by-say}
+use Rattle.cfa_machine.proofs.RowsMatch.{MatchIfOk, rows_by-say}
 use Rattle.sf_express.specs.Expressed.{reason_of, same_base}
 use Rattle.sf_express.specs.Rules.{content_of}
 use Rattle.frame_functions.specs.Functions.{Function}
@@ -36,7 +36,7 @@ content_anywhere : (arch : Arch) (a b : ℕ) (columns : Columns) → content_of 
 unfolding content_of
 content_anywhere arch a b columns = refl
 
-said_of_row : (arch : Arch) (row : FullRow) (first : DwRow) → SaysAt arch row (Some first) → content_of arch first ≡ content_of arch (row_from 0 (columns_of arch row))
+said_of_row : (arch : Arch) (row : FullRow) (first : DwRow) → HasColumns arch row (Some first) → content_of arch first ≡ content_of arch (row_from 0 (columns_of arch row))
 said_of_row arch row first h =
     let is : first ≡ row_from h.start (columns_of arch row) = let e = h.is in cc in
     ap (content_of arch) is ∙ content_anywhere arch h.start 0 (columns_of arch row)
@@ -51,9 +51,9 @@ initial_said arch code factor initial row given is content =
     let rows = row_from 0 row ∷ [] in
     let by_pass : rows_by arch code factor 1 initial [] ≡ Ok rows =
     ap (λ (x : Result Columns MachineFault). x >>= λ c. rows_from (record { arch = arch; code_alignment_factor = code; size = 1; initial = c }) factor (record { columns = c; remembered = []; offset = 0 }) []) is in
-    let say : SayAll arch code factor 1 initial [] rows = subst (SaysAllIfOk arch code factor 1 initial []) by_pass (rows_by-say arch code factor 1 initial [] (omega arith)) in
+    let say : MatchInstructions arch code factor 1 initial [] rows = subst (MatchIfOk arch code factor 1 initial []) by_pass (rows_by-say arch code factor 1 initial [] (omega arith)) in
     let fine : first_fault arch factor initial [] ≡ None = sym (rows_by-fault arch code factor 1 initial []) ∙ ap fault_of by_pass in
-    let at : SaysAt arch (row_at_offset code factor initial [] 0) (Some (row_from 0 row)) = say 0 (omega arith) in
+    let at : HasColumns arch (row_at_offset code factor initial [] 0) (Some (row_from 0 row)) = say 0 (omega arith) in
     ap result_ok (content ∙ said_of_row arch (row_at_offset code factor initial [] 0) (row_from 0 row) at)
     ∙ sym (unless_none (said_there arch code factor initial))
     ∙ sym (ap (λ (x : Option MachineFault). content_unless x (said_there arch code factor initial)) fine)

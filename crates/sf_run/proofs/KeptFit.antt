@@ -38,7 +38,7 @@ use Rattle.eh_records.proofs.Keys.{keys_fit}
 use Rattle.cfa_machine.specs.Registers.{return_address}
 use Rattle.sf_express.specs.Expressed.{reason_of}
 use Rattle.sf_express.specs.Rules.{◌>>=◌ as ◌>>>◌, base_of, cfa_from, cfa_content, content_of, fits_i32, frame_pointer_content, frame_pointer_at, is_minus_8, narrowed, frame_pointer_needs_return_address, return_address_content, return_address_at, sign_state_check, stack_pointer_check}
-use Rattle.sf_express.specs.Runs.{Saying, begins, expressed, first_against, function_of, omission_of, row_there, rows_of, unless_omitted, whole_or_row}
+use Rattle.sf_express.specs.Runs.{ContentsByOffset, begins, expressed, first_against, function_of, omission_of, row_there, rows_of, unless_omitted, whole_or_row}
 use Rattle.sf_express.proofs.Writable.{made}
 use Rattle.frame_functions.specs.declared.read_function.ReadFunction.{ReadFunction}
 use Rattle.frame_functions.specs.declared.read_function.Expressed.{Expressed}
@@ -47,7 +47,7 @@ use Rattle.frame_functions.specs.ReadFunction.{IsSound, IsSoundOutcome, kept_in,
 use Rattle.frame_functions.specs.CallFrames.{CallFrames}
 use Rattle.frame_functions.specs.Functions.{Function, fault_in, function_at, function_in, functions_in, section_functions, sections_functions, span_in}
 use Rattle.sf_asm.specs.Functions.{◌>>=◌, Object, functions_after, functions_of, machine_of, named, object_functions, seen_behind, sections_of, unless}
-use Rattle.frame_functions.specs.Kept.{read_of, facts_of, outcome_by, says_of}
+use Rattle.frame_functions.specs.Kept.{read_of, facts_of, outcome_by, row_contents}
 use Rattle.frame_functions.specs.Relocated.{Values, on_pointers, patched_values}
 use Rattle.frame_functions.proofs.MadeRows.{first_of, made_of, outcome_is_sound, outcome_means}
 use Rattle.frame_functions.proofs.MadeRows.{rows_of as instruction_rows}
@@ -284,23 +284,23 @@ row_said size offset (Ok c) r lt range e =
     subst (RowFits size) is record { start = lt; offsets = range }
 row_said size offset (Err reason) r lt range e = cc
 
-rows_fit : (says : Saying) (size : ℕ) → ((offset : ℕ) → ContentIn (says offset)) → All (RowFits size) (rows_of says size)
+rows_fit : (says : ContentsByOffset) (size : ℕ) → ((offset : ℕ) → ContentIn (says offset)) → All (RowFits size) (rows_of says size)
 unfolding rows_of
 rows_fit says size range =
     all_said (λ (o : ℕ). o < size) (RowFits size) (λ (o : ℕ). row_there o (says o)) (λ o r lt e. row_said size o (says o) r lt (range o) e)
     (filter (begins says) (range_with_len 0 size)) (All-filter (begins says) (λ (o : ℕ). o < size) (range_with_len 0 size) (all_below 0 size size (omega arith)))
 
 -- ---- a function
-record IsExpressed (arch : Arch) (facts : FdeFacts) (says : Saying) (g : Func) : Type 0 where
+record IsExpressed (arch : Arch) (facts : FdeFacts) (says : ContentsByOffset) (g : Func) : Type 0 where
   none : reason_of arch facts ≡ None
   is : expressed facts says ≡ g
 
-by_reasons : (arch : Arch) (facts : FdeFacts) (says : Saying) (g : Func) (whole : Option Reason) (row : Option Omission) → reason_of arch facts ≡ whole → unless_omitted (whole_or_row whole row) (expressed facts says) ≡ Ok g → IsExpressed arch facts says g
+by_reasons : (arch : Arch) (facts : FdeFacts) (says : ContentsByOffset) (g : Func) (whole : Option Reason) (row : Option Omission) → reason_of arch facts ≡ whole → unless_omitted (whole_or_row whole row) (expressed facts says) ≡ Ok g → IsExpressed arch facts says g
 by_reasons arch facts says g None None e h = record { none = e; is = cc }
 by_reasons arch facts says g None (Some omission) e h = cc
 by_reasons arch facts says g (Some reason) row e h = cc
 
-is_expressed : (arch : Arch) (facts : FdeFacts) (says : Saying) (g : Func) → function_of arch facts says ≡ Ok g → IsExpressed arch facts says g
+is_expressed : (arch : Arch) (facts : FdeFacts) (says : ContentsByOffset) (g : Func) → function_of arch facts says ≡ Ok g → IsExpressed arch facts says g
 unfolding function_of omission_of
 is_expressed arch facts says g h = by_reasons arch facts says g (reason_of arch facts) (first_against says (range_with_len 0 facts.size)) refl h
 
@@ -315,7 +315,7 @@ small_size arch facts e = at_tests (facts.size == 0) (nat_le (2 ^ 32) facts.size
     at_tests false true t e = cc
     at_tests false false t e = leb-false (2 ^ 32) facts.size t
 
-expressed_fits : (arch : Arch) (facts : FdeFacts) (says : Saying) (g : Func) → ((offset : ℕ) → ContentIn (says offset)) → function_of arch facts says ≡ Ok g → NumbersFit g
+expressed_fits : (arch : Arch) (facts : FdeFacts) (says : ContentsByOffset) (g : Func) → ((offset : ℕ) → ContentIn (says offset)) → function_of arch facts says ≡ Ok g → NumbersFit g
 expressed_fits arch facts says g range h =
     let made = is_expressed arch facts says g h in
     let small = small_size arch facts made.none in
@@ -336,30 +336,30 @@ made_there : (f : Function) (given : Result (List DwRow) MachineFault) → fault
 made_there f (Ok rows) e = (_, refl)
 made_there f (Err fault) e = cc
 
-sound_by : (f : Function) (x : Result Func Omission) → function_of f.arch (facts_of f) (says_of f) ≡ x → f.start + f.size ≤ 2 ^ 64 → IsTrue (key_fits f.arch f.key)
+sound_by : (f : Function) (x : Result Func Omission) → function_of f.arch (facts_of f) (row_contents f) ≡ x → f.start + f.size ≤ 2 ^ 64 → IsTrue (key_fits f.arch f.key)
     → first_fault f.arch f.factor f.initial f.own ≡ None → IsSoundOutcome f.arch f.start f.size (outcome_by x)
 sound_by f (Err omission) e end key runs = tt
 sound_by f (Ok g) e end key runs =
-    let small = small_size f.arch (facts_of f) (is_expressed f.arch (facts_of f) (says_of f) g e).none in
+    let small = small_size f.arch (facts_of f) (is_expressed f.arch (facts_of f) (row_contents f) g e).none in
     let there = made_there f (instruction_rows f) (first_of f ∙ runs) in
     let means : there.0 ≡ outcome_by (Ok g) = outcome_means f there.0 (omega (small, arith)) there.1 ∙ ap outcome_by e in
     subst (IsSoundOutcome f.arch f.start f.size) means (outcome_is_sound f there.0 end key there.1)
 
 pub entry_sound : (arch : Arch) (f : Function) → IsRead arch f → IsSound arch (read_of f)
 entry_sound arch f h =
-    subst (λ (a : Arch). IsSoundOutcome a f.start f.size (read_of f).outcome) h.machine (sound_by f (function_of f.arch (facts_of f) (says_of f)) refl h.end h.key h.runs)
+    subst (λ (a : Arch). IsSoundOutcome a f.start f.size (read_of f).outcome) h.machine (sound_by f (function_of f.arch (facts_of f) (row_contents f)) refl h.end h.key h.runs)
 
 -- its numbers fit, where it is kept
 abbrev pub OutcomeFits : Expressed → Type 0
 OutcomeFits (Kept g) = NumbersFit g
 OutcomeFits (LeftOut omission) = Unit {0}
 
-outcome_fits : (f : Function) (x : Result Func Omission) → function_of f.arch (facts_of f) (says_of f) ≡ x → OutcomeFits (outcome_by x)
-outcome_fits f (Ok g) e = expressed_fits f.arch (facts_of f) (says_of f) g (λ offset. content_in f.arch _) e
+outcome_fits : (f : Function) (x : Result Func Omission) → function_of f.arch (facts_of f) (row_contents f) ≡ x → OutcomeFits (outcome_by x)
+outcome_fits f (Ok g) e = expressed_fits f.arch (facts_of f) (row_contents f) g (λ offset. content_in f.arch _) e
 outcome_fits f (Err omission) e = tt
 
 pub entry_fits : (f : Function) → OutcomeFits (read_of f).outcome
-entry_fits f = outcome_fits f (function_of f.arch (facts_of f) (says_of f)) refl
+entry_fits f = outcome_fits f (function_of f.arch (facts_of f) (row_contents f)) refl
 
 kept_fits : (e : ReadFunction) (g : Func) (outcome : Expressed) → OutcomeFits outcome → kept_in outcome ≡ Some g → NumbersFit g
 kept_fits e g (Kept h) fits is = let same : h ≡ g = cc in subst NumbersFit same fits

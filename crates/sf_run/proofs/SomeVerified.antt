@@ -15,7 +15,7 @@ use Rattle.sf_decode.proofs.EntriesRead.{section_stands}
 use Rattle.sf_slim.proofs.Ranges.{IsGood, functions_good}
 use Rattle.frame_functions.specs.Functions.{Function}
 use Rattle.sf_asm.specs.Functions.{Object}
-use Rattle.frame_functions.specs.ContentAt.{said_in}
+use Rattle.frame_functions.specs.ContentAt.{content_in_function}
 use Rattle.sf_verify.specs.Agreement.{IsFitting}
 use Rattle.sf_verify.specs.SectionContent.{section_at}
 use Rattle.sf_verify.proofs.Fitting.{RowFits, dwarf_fits, function_fits, section_fits}
@@ -30,13 +30,13 @@ if_in_range : (said : Result Content Reason) → ContentIn said → IfOk said Of
 if_in_range (Ok content) h = h
 if_in_range (Err reason) h = tt
 
-read_fits : (arch : Arch) (f : Function) → IsRead arch f → (pc : ℕ) → IfSome (said_in pc f) (IsFitting arch)
+read_fits : (arch : Arch) (f : Function) → IsRead arch f → (pc : ℕ) → IfSome (content_in_function pc f) (IsFitting arch)
 read_fits arch f h pc =
-    subst (λ (a : Arch). IfSome (said_in pc f) (IsFitting a)) h.machine (function_fits f h.runs (λ offset. if_in_range _ (content_in f.arch _)) pc)
+    subst (λ (a : Arch). IfSome (content_in_function pc f) (IsFitting a)) h.machine (function_fits f h.runs (λ offset. if_in_range _ (content_in f.arch _)) pc)
 
 inputs_fit : (arch : Arch) (objects : List Object) → InputsFit arch objects
 inputs_fit arch objects functions are machines =
-    dwarf_fits arch functions (All-weaker (IsRead arch) (λ (f : Function). (pc : ℕ) → IfSome (said_in pc f) (IsFitting arch)) (read_fits arch) functions (functions_read arch 1 objects functions machines are))
+    dwarf_fits arch functions (All-weaker (IsRead arch) (λ (f : Function). (pc : ℕ) → IfSome (content_in_function pc f) (IsFitting arch)) (read_fits arch) functions (functions_read arch 1 objects functions machines are))
 
 -- ---- what a section says
 rows_fit : (arch : Arch) (f : Func) → All (IsGood arch) f.rows → All (RowFits arch) f.rows

@@ -171,9 +171,9 @@ RunRefuses command contents (refusal.Limit limit) = RunExceeds command contents 
 RunRefuses command contents refused = ComesAs (RunComes command contents) refused
 
 -- a refused item has a line
-abbrev pub CanBeSaid : Refusal → Type 0
-CanBeSaid (refusal.Input notice) = HasLine notice
-CanBeSaid refused = Unit {0}
+abbrev pub CanBePrinted : Refusal → Type 0
+CanBePrinted (refusal.Input notice) = HasLine notice
+CanBePrinted refused = Unit {0}
 
 -- the status and the line of a refusal
 abbrev pub Tells : Refusal → Status → (before after : SinkSeen) → Type 0

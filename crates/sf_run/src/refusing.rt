@@ -1,6 +1,6 @@
 //! Why a run makes nothing, as a status and a line.
 
-ghost use Rattle.sf_run.specs.Ends.{CanBeSaid, Tells};
+ghost use Rattle.sf_run.specs.Ends.{CanBePrinted, Tells};
 ghost use Rattle.sf_run.specs.Lines.{Says, limit_line};
 
 use crate::lines::{print_line, print_name};
@@ -27,7 +27,7 @@ fn print_limit<E: Sink>(limit: Limit, err: &mut E)
 
 /// Prints why nothing was made, and returns the status.
 pub fn refuse<E: Sink>(refusal: &Refusal<'_>, err: &mut E) -> Status
-    requires { CanBeSaid refusal.now }
+    requires { CanBePrinted refusal.now }
     ensures { Tells refusal.now result (E.seen err.old) (E.seen err.new) }
 {
     match refusal {

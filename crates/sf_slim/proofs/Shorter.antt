@@ -35,7 +35,7 @@ use Rattle.sf_merge.proofs.Apart.{EndsBy, pairs_none, pairs_weaker}
 use Rattle.sf_model.proofs.Unions.{Member, found_alone, found_by, member, one_contains}
 use Rattle.sf_merge.proofs.Sound.{IsSound, functions_sound}
 use Rattle.sf_slim.specs.Slim.{content_at, slim_function, slim_rows, slim_rows_of, AreNeeded}
-use Rattle.sf_slim.specs.Shortest.{HasLeastRows, HoldsStarts, IsPlain, SaysTheSame, StandsFor, row_bytes, span}
+use Rattle.sf_slim.specs.Shortest.{HasLeastRows, HoldsStarts, IsPlain, HasSameContent, StandsFor, row_bytes, span}
 use Rattle.sf_slim.proofs.Alike.{all_member, by_content, from_table, one, recovers}
 use Rattle.sf_slim.proofs.Least.{IsOne, found_one, least_is_least, none_is_shorter, of_filter, rows_alike, wider}
 use Rattle.sf_slim.proofs.Ranges.{IsGood, functions_good}
@@ -175,7 +175,7 @@ rows_least bytes at given functions is_section slim k d lt plain rows width stan
     omega (own, fewer, arith)
 
 module _ (bytes : List ℕ) (at : ℕ) (given : Table) (functions : List Func) (is_section : Section bytes at given) (slim : AreNeeded given functions) (plain : All IsPlain functions)
-    (place : ℕ) (other : List ℕ) (table : Table) (says : SaysTheSame given functions place other table) where
+    (place : ℕ) (other : List ℕ) (table : Table) (says : HasSameContent given functions place other table) where
   rise : All (λ (f : Func). RowsRise f.rows) given.functions
   rise = table_rises bytes at given is_section
 
@@ -263,5 +263,5 @@ module _ (bytes : List ℕ) (at : ℕ) (given : Table) (functions : List Func) (
       omega (rows, says.tight.nothing_besides, counts, one, two, arith)
 
 pub none_is_shorter_than : (bytes : List ℕ) (at : ℕ) (given : Table) (functions : List Func) → Section bytes at given → AreNeeded given functions → All IsPlain functions
-    → (place : ℕ) (other : List ℕ) (table : Table) → SaysTheSame given functions place other table → section_len functions ≤ length other
+    → (place : ℕ) (other : List ℕ) (table : Table) → HasSameContent given functions place other table → section_len functions ≤ length other
 none_is_shorter_than bytes at given functions is_section slim plain place other table says = not_shorter bytes at given functions is_section slim plain place other table says

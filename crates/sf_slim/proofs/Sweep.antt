@@ -110,10 +110,10 @@ kept_rise last size least (r ∷ rows) h = at_test (is_needed last size r) (kept
 pub kept_rows_rise : (size : ℕ) (rows : List Row) → RowsRise rows → RowsRise (kept None size rows)
 kept_rows_rise size rows h = all_rise 0 (kept None size rows) (kept_rise None size 0 rows (rises rows h))
 
-kept_says : (o size least : ℕ) (found : Option Row) (last : Option Row) (rows : List Row) → o < size → Rise least rows → contents last ≡ contents found
+kept_content : (o size least : ℕ) (found : Option Row) (last : Option Row) (rows : List Row) → o < size → Rise least rows → contents last ≡ contents found
     → contents (latest o last (kept (contents found) size rows)) ≡ contents (latest o found rows)
-kept_says o size least found last [] lt h e = e
-kept_says o size least found last (r ∷ rows) lt h e = elim (cases_lt o r.start) [
+kept_content o size least found last [] lt h e = e
+kept_content o size least found last (r ∷ rows) lt h e = elim (cases_lt o r.start) [
   | inl ahead ↦
       ap contents (latest_stays o r.start last (kept (contents found) size (r ∷ rows)) ahead (kept_rise (contents found) size r.start (r ∷ rows) (omega arith, h.1)))
       ∙ e ∙ sym (ap contents (latest_stops o found r rows ahead))
@@ -121,7 +121,7 @@ kept_says o size least found last (r ∷ rows) lt h e = elim (cases_lt o r.start
       let by : r.start ≤ o = omega (not_ahead, arith) in
       let within : r.start < size = omega (by, lt, arith) in
       at_test (repeats (contents found) r.content) refl by within
-      (λ last' e'. kept_says o size (r.start + 1) (Some r) last' rows lt h.1 e')
+      (λ last' e'. kept_content o size (r.start + 1) (Some r) last' rows lt h.1 e')
 ]
   where
     at_test : (b : Bool) → repeats (contents found) r.content ≡ b → r.start ≤ o → r.start < size
@@ -142,5 +142,5 @@ pub slim_says : (size : ℕ) (rows : List Row) → RowsRise rows → (o : ℕ) �
 slim_says size rows h o lt =
     ap (λ (rs : List Row). content_at rs o) (slim_is_kept size rows h)
     ∙ ap contents (sym (latest_holds o (kept None size rows) (kept_rows_rise size rows h)))
-    ∙ kept_says o size 0 None None rows lt (rises rows h) refl
+    ∙ kept_content o size 0 None None rows lt (rises rows h) refl
     ∙ ap contents (latest_holds o rows h)

@@ -51,7 +51,7 @@ IsPlain f = f.shape ≡ Plain
 
 -- These bytes are a section of this table without gaps, of the same machine, whose functions have the same starts and sizes as
 -- these and are looked up by the offset, and at every address it recovers what the given table recovers.
-pub record SaysTheSame (given : Table) (functions : List Func) (at : ℕ) (bytes : List ℕ) (table : Table) : Type 0 where
+pub record HasSameContent (given : Table) (functions : List Func) (at : ℕ) (bytes : List ℕ) (table : Table) : Type 0 where
   pub tight : Tight bytes at table
   pub machine : table.arch ≡ given.arch
   pub plain : All IsPlain table.functions
@@ -60,4 +60,4 @@ pub record SaysTheSame (given : Table) (functions : List Func) (at : ℕ) (bytes
 
 -- no section of plain functions that recovers the same is shorter
 abbrev pub IsLeast : (given : Table) → (functions : List Func) → (len : ℕ) → Type 0
-IsLeast given functions len = (at : ℕ) (bytes : List ℕ) (table : Table) → SaysTheSame given functions at bytes table → len ≤ length bytes
+IsLeast given functions len = (at : ℕ) (bytes : List ℕ) (table : Table) → HasSameContent given functions at bytes table → len ≤ length bytes

@@ -1,6 +1,6 @@
 -- Inside the crate. Bytes that go to a sink through a buffer.
 use Rattle.std.specs.Prelude.{◌≡◌, ◌++◌, ℕ, List, Option}
-use Rattle.sf_base.specs.Told.{OnTold}
+use Rattle.sf_base.specs.Known.{OnKnown}
 
 -- A piece was written; it and what the buffer holds after it are what the buffer held before it and these bytes.
 pub record IsGathered (held holds bytes old new : List ℕ) : Type 0 where
@@ -10,4 +10,4 @@ pub record IsGathered (held holds bytes old new : List ℕ) : Type 0 where
 
 -- such a piece went to a sink whose bytes are known before and after
 abbrev pub Gathers : (before after : Option (List ℕ)) → (held holds bytes : List ℕ) → Type 0
-Gathers before after held holds bytes = OnTold before after (λ old new. IsGathered held holds bytes old new)
+Gathers before after held holds bytes = OnKnown before after (λ old new. IsGathered held holds bytes old new)

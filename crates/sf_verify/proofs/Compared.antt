@@ -16,9 +16,9 @@ use Rattle.sf_verify.specs.declared.dwarf_cursor.DwarfCursor.{DwarfCursor}
 use Rattle.sf_verify.specs.declared.dwarf_cursor.ContentUntil.{ContentUntil}
 use Rattle.frame_functions.specs.declared.keyed_content.KeyedContent.{KeyedContent}
 use Rattle.sf_verify.specs.declared.sweep.Difference.{Difference}
-use Rattle.sf_verify.specs.Agreement.{Agree, RecoverSameFrame, content_said, is_plain, is_plain_shape}
+use Rattle.sf_verify.specs.Agreement.{Agree, RecoverSameFrame, without_key, is_plain, is_plain_shape}
 use Rattle.sf_verify.specs.Asking.{IsKnownUpTo, IsReady, IsSame, Knows}
-use Rattle.sf_verify.specs.Comparing.{Compares, edge, edge_of, func_says}
+use Rattle.sf_verify.specs.Comparing.{Compares, edge, edge_of, function_content}
 use Rattle.frame_functions.specs.ContentAt.{Answers, with_key}
 use Rattle.sf_verify.proofs.HolderContent.{plain_says}
 use Rattle.sf_verify.proofs.Rows.{no_row_at_all, no_row_before, row_at_place}
@@ -54,8 +54,8 @@ differ_in section dwarf from mid next end None t le up h g = cc
 differ_in section dwarf from mid next end (Some d) t le up h g = record {
   from_here = omega (arith, le, g.from_here);
   below = omega (arith, g.below, up);
-  section_says = g.section_says;
-  dwarf_says = g.dwarf_says;
+  section_content = g.section_content;
+  dwarf_content = g.dwarf_content;
   differ = g.differ;
   before = λ pc low high. elim (cases_lt pc mid) [
     | inl earlier ↦ h pc low earlier
@@ -72,13 +72,13 @@ both_compare section dwarf from mid end None le up h g = λ pc low high. elim (c
 both_compare section dwarf from mid end (Some d) le up h g = differ_in section dwarf from mid end end (Some d) refl le (omega arith) h g
 
 -- an address at which they differ
-pub differ_here : (section dwarf : Answers) (from end pc : ℕ) (ours : Content) (theirs : Option Content) → from ≤ pc → pc < end → Compares section dwarf from pc None → content_said (section pc) ≡ Some ours → content_said (dwarf pc) ≡ theirs → (Agree (section pc) (dwarf pc) → ⊥)
+pub differ_here : (section dwarf : Answers) (from end pc : ℕ) (ours : Content) (theirs : Option Content) → from ≤ pc → pc < end → Compares section dwarf from pc None → without_key (section pc) ≡ Some ours → without_key (dwarf pc) ≡ theirs → (Agree (section pc) (dwarf pc) → ⊥)
     → Compares section dwarf from end (Some (record { pc = pc; section = ours; dwarf = theirs }))
 differ_here section dwarf from end pc ours theirs le lt h ours_is theirs_is differ = record {
   from_here = le;
   below = lt;
-  section_says = ours_is;
-  dwarf_says = theirs_is;
+  section_content = ours_is;
+  dwarf_content = theirs_is;
   differ = differ;
   before = λ p low high. h p low high;
 }
@@ -87,14 +87,14 @@ differ_here section dwarf from end pc ours theirs le lt h ours_is theirs_is diff
 pub nothing_there : (said : KeyedContent) (dwarf : Answers) (from end pc : ℕ) → from ≤ pc → pc < end → Compares (λ p. Some said) dwarf from pc None → dwarf pc ≡ None
     → Compares (λ p. Some said) dwarf from end (Some (record { pc = pc; section = said.content; dwarf = None }))
 nothing_there said dwarf from end pc le lt h none =
-    differ_here (λ p. Some said) dwarf from end pc said.content None le lt h refl (ap content_said none) (λ agree. subst (Agree (Some said)) none agree)
+    differ_here (λ p. Some said) dwarf from end pc said.content None le lt h refl (ap without_key none) (λ agree. subst (Agree (Some said)) none agree)
 
 -- something else is known there
 pub other_there : (arch : Arch) (said : KeyedContent) (known : ContentUntil) (dwarf : Answers) (from end pc : ℕ) → from ≤ pc → pc < end → Compares (λ p. Some said) dwarf from pc None → IsKnownUpTo arch dwarf pc known → (RecoverSameFrame said known.said → ⊥)
     → Compares (λ p. Some said) dwarf from end (Some (record { pc = pc; section = said.content; dwarf = Some known.said.content }))
 other_there arch said known dwarf from end pc le lt h there differ =
     let here : dwarf pc ≡ Some known.said = there.steady pc (omega arith) there.from_here in
-    differ_here (λ p. Some said) dwarf from end pc said.content (Some known.said.content) le lt h refl (ap content_said here) (λ agree. differ (subst (Agree (Some said)) here agree))
+    differ_here (λ p. Some said) dwarf from end pc said.content (Some known.said.content) le lt h refl (ap without_key here) (λ agree. differ (subst (Agree (Some said)) here agree))
 
 -- what is known there recovers alike, up to where it goes
 pub alike_on : (arch : Arch) (said : KeyedContent) (known : ContentUntil) (dwarf : Answers) (from pc end : ℕ) → end ≤ known.last + 1 → Compares (λ p. Some said) dwarf from pc None → IsKnownUpTo arch dwarf pc known → RecoverSameFrame said known.said → Compares (λ p. Some said) dwarf from end None
@@ -112,8 +112,8 @@ compare_alike section other dwarf from end (Some d) same h =
     record {
       from_here = h.from_here;
       below = h.below;
-      section_says = ap content_said (sym here) ∙ h.section_says;
-      dwarf_says = h.dwarf_says;
+      section_content = ap without_key (sym here) ∙ h.section_content;
+      dwarf_content = h.dwarf_content;
       differ = λ agree. h.differ (subst (λ x. Agree x (dwarf d.pc)) (sym here) agree);
       before = λ pc low high. subst (λ x. Agree x (dwarf pc)) (same pc low (omega (arith, high, h.below))) (h.before pc low high);
     }
@@ -162,10 +162,10 @@ edge_rises rows place size h = elim (cases_lt (place + 1) (length rows)) [
         omega (arith, here, next, rise)
 
 -- before the first row the function says nothing
-pub nothing_first : (f : Func) (dwarf : Answers) (from : ℕ) → f.shape ≡ Plain → RowsRise f.rows → from ≡ edge f.rows 0 f.size → Compares (func_says f) dwarf f.start (f.start + from) None
+pub nothing_first : (f : Func) (dwarf : Answers) (from : ℕ) → f.shape ≡ Plain → RowsRise f.rows → from ≡ edge f.rows 0 f.size → Compares (function_content f) dwarf f.start (f.start + from) None
 nothing_first f dwarf from plain rise is = go f.rows refl
   where
-    go : (rows : List Row) → f.rows ≡ rows → Compares (func_says f) dwarf f.start (f.start + from) None
+    go : (rows : List Row) → f.rows ≡ rows → Compares (function_content f) dwarf f.start (f.start + from) None
     go rows same = λ pc low high.
         let none : row_at (pc - f.start) f.rows ≡ None = before rows same pc low high in
         subst (λ x. Agree x (dwarf pc)) (sym (plain_says f pc plain ∙ ap (λ (o : Option Row). option_map (with_key f.key) (option_map (λ (r : Row). r.content) o)) none)) tt
@@ -178,7 +178,7 @@ nothing_first f dwarf from plain rise is = go f.rows refl
 
 -- in a run from a row to the next the function says what the row says
 pub row_says : (f : Func) (place from end : ℕ) (row : Row) → f.shape ≡ Plain → RowsRise f.rows → place < length f.rows → row ≡ get_or f.rows place row → from ≡ edge f.rows place f.size → end ≡ edge f.rows (place + 1) f.size → from < end
-    → (pc : ℕ) → f.start + from ≤ pc → pc < f.start + end → Some (with_key f.key row.content) ≡ func_says f pc
+    → (pc : ℕ) → f.start + from ≤ pc → pc < f.start + end → Some (with_key f.key row.content) ≡ function_content f pc
 row_says f place from end row plain rise lt is from_is end_is some = λ pc low high.
     let here = from_is ∙ edge_there f.rows place f.size row lt in
     let within = edge_within f.rows (place + 1) f.size in
@@ -194,9 +194,9 @@ known_some arch answers pc result known is h = subst (Knows arch answers pc) is 
 -- the run of a row, as the function says it
 run_of : (f : Func) (said : KeyedContent) (asked dwarf : Answers) (place from end first next : ℕ) (row : Row) (d : Option Difference) → asked ≡ dwarf → f.shape ≡ Plain → RowsRise f.rows → place < length f.rows → row ≡ get_or f.rows place row
     → from ≡ edge f.rows place f.size → end ≡ edge f.rows (place + 1) f.size → from < end → first ≡ f.start + from → next ≡ f.start + end → said ≡ with_key f.key row.content
-    → Compares (λ pc. Some said) asked first next d → Compares (func_says f) dwarf (f.start + from) (f.start + end) d
+    → Compares (λ pc. Some said) asked first next d → Compares (function_content f) dwarf (f.start + from) (f.start + end) d
 run_of f said asked dwarf place from end first next row d same plain rise lt is from_is end_is some first_is next_is said_is h =
-    compare_alike (λ pc. Some said) (func_says f) dwarf (f.start + from) (f.start + end) d
+    compare_alike (λ pc. Some said) (function_content f) dwarf (f.start + from) (f.start + end) d
     (λ pc low high. ap (λ (s : KeyedContent). Some s) said_is ∙ row_says f place from end row plain rise lt is from_is end_is some pc low high)
     (subst (λ (n : ℕ). Compares (λ pc. Some said) dwarf (f.start + from) n d) next_is
     (subst (λ (m : ℕ). Compares (λ pc. Some said) dwarf m next d) first_is
@@ -209,7 +209,7 @@ row_in_place (r ∷ rows) place lt = (get_or (r ∷ rows) place r, get_or_defaul
 
 pub run_of_row : (f : Func) (rows : List Row) (said : KeyedContent) (asked dwarf : Answers) (place from end first next : ℕ) (d : Option Difference) → asked ≡ dwarf → f.shape ≡ Plain → RowsRise f.rows → rows ≡ f.rows → place < length rows
     → from ≡ edge rows place f.size → end ≡ edge rows (place + 1) f.size → from < end → first ≡ f.start + from → next ≡ f.start + end → ((row : Row) → said ≡ with_key f.key (get_or rows place row).content)
-    → Compares (λ pc. Some said) asked first next d → Compares (func_says f) dwarf (f.start + from) (f.start + end) d
+    → Compares (λ pc. Some said) asked first next d → Compares (function_content f) dwarf (f.start + from) (f.start + end) d
 run_of_row f rows said asked dwarf place from end first next d same plain rise rows_are lt from_is end_is some first_is next_is said_is h =
     let lt' : place < length f.rows = subst (λ (rs : List Row). place < length rs) rows_are lt in
     let row = row_in_place f.rows place lt' in

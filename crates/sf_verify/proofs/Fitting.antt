@@ -17,8 +17,8 @@ use Rattle.cfa_machine.specs.FirstFault.{first_fault}
 use Rattle.sf_express.specs.ContentRanges.{content_in}
 use Rattle.sf_express.proofs.Writable.{ContentFits, content_of-fits}
 use Rattle.frame_functions.specs.Functions.{holds_address, Function}
-use Rattle.frame_functions.specs.Kept.{says_of}
-use Rattle.frame_functions.specs.ContentAt.{dwarf_at, has_form, said_in, with_key}
+use Rattle.frame_functions.specs.Kept.{row_contents}
+use Rattle.frame_functions.specs.ContentAt.{dwarf_at, has_form, content_in_function, with_key}
 use Rattle.sf_verify.specs.Agreement.{IsFitting}
 use Rattle.sf_verify.specs.SectionContent.{by_row, section_at, unless_in_blocks}
 use Rattle.sf_verify.proofs.Signs.{signs_fit}
@@ -70,18 +70,18 @@ content_says f true (Err reason) fits in_range = tt
 content_says f false said fits in_range = tt
 
 -- a function that runs without a fault
-pub function_fits : (f : Function) → first_fault f.arch f.factor f.initial f.own ≡ None → ((offset : ℕ) → IfOk (says_of f offset) OffsetsInRange) → (pc : ℕ) → IfSome (said_in pc f) (IsFitting f.arch)
+pub function_fits : (f : Function) → first_fault f.arch f.factor f.initial f.own ≡ None → ((offset : ℕ) → IfOk (row_contents f offset) OffsetsInRange) → (pc : ℕ) → IfSome (content_in_function pc f) (IsFitting f.arch)
 function_fits f runs in_range pc =
     let offset = pc - f.start in
-    content_says f (has_form f) (says_of f offset) (content_of-fits f.arch _ (signs_fit f.arch f.code f.factor f.initial f.own offset runs)) (in_range offset)
+    content_says f (has_form f) (row_contents f offset) (content_of-fits f.arch _ (signs_fit f.arch f.code f.factor f.initial f.own offset runs)) (in_range offset)
 
 abbrev SaysFit : Arch → Function → Type 0
-SaysFit arch f = (pc : ℕ) → IfSome (said_in pc f) (IsFitting arch)
+SaysFit arch f = (pc : ℕ) → IfSome (content_in_function pc f) (IsFitting arch)
 
-pub dwarf_fits : (arch : Arch) (functions : List Function) → All (λ (f : Function). (pc : ℕ) → IfSome (said_in pc f) (IsFitting arch)) functions → (pc : ℕ) → IfSome (dwarf_at functions pc) (IsFitting arch)
+pub dwarf_fits : (arch : Arch) (functions : List Function) → All (λ (f : Function). (pc : ℕ) → IfSome (content_in_function pc f) (IsFitting arch)) functions → (pc : ℕ) → IfSome (dwarf_at functions pc) (IsFitting arch)
 unfolding dwarf_at
 dwarf_fits arch functions h pc = at_found (find (holds_address pc) functions) (find_all (SaysFit arch) (holds_address pc) functions h)
   where
-    at_found : (found : Option Function) → IfSome found (SaysFit arch) → IfSome (option_and_then (said_in pc) found) (IsFitting arch)
+    at_found : (found : Option Function) → IfSome found (SaysFit arch) → IfSome (option_and_then (content_in_function pc) found) (IsFitting arch)
     at_found None none = tt
     at_found (Some f) says = says pc

@@ -17,14 +17,14 @@ use Rattle.sf_model.specs.declared.omission.Reason.{Reason}
 use Rattle.sf_model.specs.declared.rows.Row.{Row}
 use Rattle.sf_model.specs.Function.{IsWritable}
 use Rattle.sf_model.specs.Lookup.{contains, row_at}
-use Rattle.sf_express.specs.Offsets.{as_said}
+use Rattle.sf_express.specs.Offsets.{without_reason}
 use Rattle.sf_express.specs.ContentRanges.{content_in}
-use Rattle.sf_express.specs.Runs.{Saying, begins, expressed, function_of, omission_of, row_there, rows_among, rows_of}
+use Rattle.sf_express.specs.Runs.{ContentsByOffset, begins, expressed, function_of, omission_of, row_there, rows_among, rows_of}
 use Rattle.sf_express.proofs.Found.{SaysContent, content_said, row_said}
 use Rattle.sf_express.proofs.Runs.{takes}
 use Rattle.frame_functions.specs.ReadFunction.{kept_of}
 use Rattle.frame_functions.specs.Functions.{holds_address, Function}
-use Rattle.frame_functions.specs.Kept.{read_of, facts_of, is_kept, omitted_functions, says_of}
+use Rattle.frame_functions.specs.Kept.{read_of, facts_of, is_kept, omitted_functions, row_contents}
 use Rattle.frame_functions.specs.Order.{are_apart}
 use Rattle.frame_functions.specs.Descriptions.{function_start}
 use Rattle.sf_merge.proofs.Apart.{all_back}
@@ -34,28 +34,28 @@ use Rattle.sf_asm.proofs.OneFound.{found_alike}
 use Rattle.sf_asm.proofs.OneHolder.{IsFine, fine, has_form_if, is_within, one_holds, within}
 use Rattle.sf_asm.proofs.ListMembers.{all_members, in_map, placed}
 use Rattle.sf_verify.specs.Asking.{AreHolders, IsRowed, RowsBegin, answers_of, by_holder}
-use Rattle.sf_verify.specs.Comparing.{func_says}
-use Rattle.frame_functions.specs.ContentAt.{Answers, dwarf_at, form_content, said_in, with_key}
+use Rattle.sf_verify.specs.Comparing.{function_content}
+use Rattle.frame_functions.specs.ContentAt.{Answers, dwarf_at, form_content, content_in_function, with_key}
 use Rattle.sf_verify.proofs.HolderContent.{plain_says}
 
 -- ---- a kept function
 abbrev pub expressed_of : Function → Func
-expressed_of f = expressed (facts_of f) (says_of f)
+expressed_of f = expressed (facts_of f) (row_contents f)
 
-row_is : (found : Option Row) (said : Result Content Reason) → as_said (option_map (λ (r : Row). r.content) found) ≡ Some said → option_map (λ (r : Row). r.content) found ≡ content_in said
+row_is : (found : Option Row) (said : Result Content Reason) → without_reason (option_map (λ (r : Row). r.content) found) ≡ Some said → option_map (λ (r : Row). r.content) found ≡ content_in said
 row_is None said e = cc
 row_is (Some r) said e = let is : Ok r.content ≡ said = cc in ap content_in is
 
 -- it says what its instructions say
-kept_says : (f : Function) (pc : ℕ) → IsFine f → f.start ≤ pc → pc < f.start + f.size → said_in pc f ≡ func_says (expressed_of f) pc
-kept_says f pc h low high =
+kept_content : (f : Function) (pc : ℕ) → IsFine f → f.start ≤ pc → pc < f.start + f.size → content_in_function pc f ≡ function_content (expressed_of f) pc
+kept_content f pc h low high =
     let lt : pc - f.start < f.size = omega (arith, low, high) in
-    let form : form_content f (pc - f.start) ≡ content_in (says_of f (pc - f.start)) = rw (has_form_if f h.whole) refl in
-    let row = row_is (row_at (pc - f.start) (rows_of (says_of f) f.size)) (says_of f (pc - f.start)) (row_said (says_of f) f.size h.rows (pc - f.start) lt) in
+    let form : form_content f (pc - f.start) ≡ content_in (row_contents f (pc - f.start)) = rw (has_form_if f h.whole) refl in
+    let row = row_is (row_at (pc - f.start) (rows_of (row_contents f) f.size)) (row_contents f (pc - f.start)) (row_said (row_contents f) f.size h.rows (pc - f.start) lt) in
     ap (option_map (with_key f.key)) (form ∙ sym row) ∙ sym (plain_says (expressed_of f) pc refl)
 
 -- its rows begin at 0 and below the size
-rows_below : (says : Saying) (a n end : ℕ) → a + n ≤ end → All (λ (r : Row). r.start < end) (rows_among says (range_with_len a n))
+rows_below : (says : ContentsByOffset) (a n end : ℕ) → a + n ≤ end → All (λ (r : Row). r.start < end) (rows_among says (range_with_len a n))
 rows_below says a zero end le = All-nil (λ (r : Row). r.start < end)
 rows_below says a (suc n) end le = at_test (begins says a) (rows_below says (a + 1) n end (omega (arith, le)))
   where
@@ -68,14 +68,14 @@ rows_below says a (suc n) end le = at_test (begins says a) (rows_below says (a +
     at_test true h = one (says a) (rows_among says (range_with_len (a + 1) n)) h
     at_test false h = h
 
-rows_begin : (says : Saying) (size : ℕ) → 0 < size → ((o : ℕ) → o < size → SaysContent (says o)) → RowsBegin (rows_of says size)
+rows_begin : (says : ContentsByOffset) (size : ℕ) → 0 < size → ((o : ℕ) → o < size → SaysContent (says o)) → RowsBegin (rows_of says size)
 unfolding rows_of
 rows_begin says zero some h = absurd (omega (arith, some))
 rows_begin says (suc size) some h =
     let first = content_said (says 0) (h 0 (omega arith)) in
     subst RowsBegin (sym (takes says 0 size first.0 refl first.1)) refl
 
-all_rows_below : (says : Saying) (size : ℕ) → All (λ (r : Row). r.start < size) (rows_of says size)
+all_rows_below : (says : ContentsByOffset) (size : ℕ) → All (λ (r : Row). r.start < size) (rows_of says size)
 unfolding rows_of
 all_rows_below says size = rows_below says 0 size size (omega arith)
 
@@ -83,8 +83,8 @@ rowed : (arch : Arch) (f : Function) → IsFine f → IsWritable arch (expressed
 rowed arch f h w = record {
   plain = refl;
   end = w.end;
-  first = rows_begin (says_of f) f.size w.size h.rows;
-  below = all_rows_below (says_of f) f.size;
+  first = rows_begin (row_contents f) f.size w.size h.rows;
+  below = all_rows_below (row_contents f) f.size;
   rise = w.rows_rise;
   fits = w.contents;
 }
@@ -99,7 +99,7 @@ some_at : {X : Type 0} (xs : List X) (i : ℕ) → i < length xs → X
 some_at [] i lt = absurd (omega (arith, lt))
 some_at (x ∷ xs) i lt = x
 
-kept_one : (f : Function) (omission : Option Omission) (others : List Function) → omission_of f.arch (facts_of f) (says_of f) ≡ omission → kept_of (map read_of others) ≡ map expressed_of (filter is_kept others)
+kept_one : (f : Function) (omission : Option Omission) (others : List Function) → omission_of f.arch (facts_of f) (row_contents f) ≡ omission → kept_of (map read_of others) ≡ map expressed_of (filter is_kept others)
     → kept_of (map read_of (f ∷ others)) ≡ map expressed_of (filter is_kept (f ∷ others))
 unfolding function_of
 kept_one f None others e same = rw e (ap (λ (fs : List Func). expressed_of f ∷ fs) same)
@@ -107,27 +107,27 @@ kept_one f (Some omission) others e same = rw e same
 
 pub kept_are : (fs : List Function) → kept_of (map read_of fs) ≡ map expressed_of (filter is_kept fs)
 kept_are [] = refl
-kept_are (f ∷ fs) = kept_one f (omission_of f.arch (facts_of f) (says_of f)) fs refl (kept_are fs)
+kept_are (f ∷ fs) = kept_one f (omission_of f.arch (facts_of f) (row_contents f)) fs refl (kept_are fs)
 
 -- ---- at an address
 module _ (functions sorted : List Function) (moved : IsPermutation functions sorted) (apart : are_apart 0 (map read_of sorted) ≡ true) where
-  there : (f : Function) (pc : ℕ) → Member sorted f → f.start ≤ pc → pc < f.start + f.size → dwarf_at functions pc ≡ said_in pc f
+  there : (f : Function) (pc : ℕ) → Member sorted f → f.start ≤ pc → pc < f.start + f.size → dwarf_at functions pc ≡ content_in_function pc f
   unfolding dwarf_at
   there f pc m low high =
-      ap (option_and_then (said_in pc)) (found_alike (holds_address pc) functions sorted moved (one_holds pc 0 sorted apart) ∙ found_alone (holds_address pc) sorted f (one_holds pc 0 sorted apart) m (is_within pc f low high))
+      ap (option_and_then (content_in_function pc)) (found_alike (holds_address pc) functions sorted moved (one_holds pc 0 sorted apart) ∙ found_alone (holds_address pc) sorted f (one_holds pc 0 sorted apart) m (is_within pc f low high))
 
   nowhere : (pc : ℕ) → ((f : Function) → Member sorted f → f.start ≤ pc → pc < f.start + f.size → ⊥) → dwarf_at functions pc ≡ None
   unfolding dwarf_at
-  nowhere pc none = ap (option_and_then (said_in pc)) (found_alike (holds_address pc) functions sorted moved (one_holds pc 0 sorted apart)) ∙ at_found (find (holds_address pc) sorted) refl
+  nowhere pc none = ap (option_and_then (content_in_function pc)) (found_alike (holds_address pc) functions sorted moved (one_holds pc 0 sorted apart)) ∙ at_found (find (holds_address pc) sorted) refl
     where
-      at_found : (o : Option Function) → find (holds_address pc) sorted ≡ o → option_and_then (said_in pc) (find (holds_address pc) sorted) ≡ None
-      at_found None e = ap (option_and_then (said_in pc)) e
+      at_found : (o : Option Function) → find (holds_address pc) sorted ≡ o → option_and_then (content_in_function pc) (find (holds_address pc) sorted) ≡ None
+      at_found None e = ap (option_and_then (content_in_function pc)) e
       at_found (Some f) e = let h = found (holds_address pc) sorted f e in let w = within pc f h.passes in absurd (none f h.within w.from w.to)
 
   -- a kept one
   record KeptHolds (arch : Arch) (k : Func) : Type 0 where
     rowed_is : IsRowed arch k
-    says : (pc : ℕ) → k.start ≤ pc → pc < k.start + k.size → dwarf_at functions pc ≡ func_says k pc
+    says : (pc : ℕ) → k.start ≤ pc → pc < k.start + k.size → dwarf_at functions pc ≡ function_content k pc
 
   kept_holds : (arch : Arch) → All (IsWritable arch) (map expressed_of (filter is_kept sorted)) → All (KeptHolds arch) (map expressed_of (filter is_kept sorted))
   kept_holds arch writable =
@@ -138,14 +138,14 @@ module _ (functions sorted : List Function) (moved : IsPermutation functions sor
       (λ k d lt.
       let f = get_or (filter is_kept sorted) k d in
       let good = fine f (passes k d lt) in
-      record { rowed_is = rowed arch f good (each k d lt); says = λ pc low high. there f pc (members k d lt) low high ∙ kept_says f pc good low high })
+      record { rowed_is = rowed arch f good (each k d lt); says = λ pc low high. there f pc (members k d lt) low high ∙ kept_content f pc good low high })
 
   holders_by : (arch : Arch) (kept : List Func) (descriptions : List Function) → kept ≡ map expressed_of (filter is_kept sorted) → descriptions ≡ omitted_functions sorted → IsNonDecreasingBy function_start sorted
       → All (IsWritable arch) kept → All (λ (f : Function). f.arch ≡ arch) sorted → AreHolders arch (dwarf_at functions) kept descriptions
   holders_by arch kept descriptions kept_is descriptions_are rising writable machine = record {
-    kept_says = λ i d lt. (holds i d lt).says;
-    omitted_says = λ i d lt pc low high. there (get_or descriptions i d) pc (description_member i d lt) low high;
-    none_says = λ pc no_kept no_omitted. nowhere pc (λ f m low high. by_kept pc f m low high no_kept no_omitted (is_kept f) refl);
+    kept_content = λ i d lt. (holds i d lt).says;
+    omitted_content = λ i d lt pc low high. there (get_or descriptions i d) pc (description_member i d lt) low high;
+    no_content_there = λ pc no_kept no_omitted. nowhere pc (λ f m low high. by_kept pc f m low high no_kept no_omitted (is_kept f) refl);
     kept_rowed = λ i d lt. (holds i d lt).rowed_is;
     kept_rise = λ i j d le lt. rise_mapped i j d le lt;
     omitted_rise = λ i j d le lt. subst (IsNonDecreasingBy function_start) (sym descriptions_are) (IsNonDecreasingBy-filter function_start (λ (f : Function). not (is_kept f)) sorted rising) i j d le lt;
@@ -191,7 +191,7 @@ holders arch functions sorted kept descriptions moved apart kept_is descriptions
 -- ---- both lists say the same
 module _ (arch : Arch) (answers : Answers) (kept : List Func) (descriptions : List Function) (h : AreHolders arch answers kept descriptions) where
   by_lent : (pc : ℕ) (o : Option Function) → find (contains pc) kept ≡ None → find (holds_address pc) descriptions ≡ o → by_holder pc None o ≡ answers pc
-  by_lent pc None none e = sym (h.none_says pc
+  by_lent pc None none e = sym (h.no_content_there pc
       (λ i d lt low high. some_found (contains pc) kept (get_or kept i d) (rw (le-leb (get_or kept i d).start pc low, lt-ltb pc ((get_or kept i d).start + (get_or kept i d).size) high) refl) (all_members kept i d lt) none)
       (λ i d lt low high. some_found (holds_address pc) descriptions (get_or descriptions i d) (is_within pc (get_or descriptions i d) low high) (all_members descriptions i d lt) e))
   by_lent pc (Some f) none e =
@@ -199,7 +199,7 @@ module _ (arch : Arch) (answers : Answers) (kept : List Func) (descriptions : Li
       let w = within pc f t.passes in
       let p = placed descriptions f t.within in
       let is = p.is f in
-      sym (h.omitted_says p.place f p.within pc (subst (λ (g : Function). g.start ≤ pc) (sym is) w.from) (subst (λ (g : Function). pc < g.start + g.size) (sym is) w.to) ∙ ap (said_in pc) is)
+      sym (h.omitted_content p.place f p.within pc (subst (λ (g : Function). g.start ≤ pc) (sym is) w.from) (subst (λ (g : Function). pc < g.start + g.size) (sym is) w.to) ∙ ap (content_in_function pc) is)
 
   by_found : (pc : ℕ) (o : Option Func) → find (contains pc) kept ≡ o → by_holder pc o (find (holds_address pc) descriptions) ≡ answers pc
   by_found pc None e = by_lent pc (find (holds_address pc) descriptions) e refl
@@ -208,7 +208,7 @@ module _ (arch : Arch) (answers : Answers) (kept : List Func) (descriptions : Li
       let has = unions.within pc k t.passes in
       let p = placed kept k t.within in
       let is = p.is k in
-      sym (h.kept_says p.place k p.within pc (subst (λ (g : Func). g.start ≤ pc) (sym is) has.from) (subst (λ (g : Func). pc < g.start + g.size) (sym is) has.to) ∙ ap (λ (g : Func). func_says g pc) is)
+      sym (h.kept_content p.place k p.within pc (subst (λ (g : Func). g.start ≤ pc) (sym is) has.from) (subst (λ (g : Func). pc < g.start + g.size) (sym is) has.to) ∙ ap (λ (g : Func). function_content g pc) is)
 
   pub same_answers : (pc : ℕ) → answers_of kept descriptions pc ≡ answers pc
   unfolding answers_of
@@ -216,9 +216,9 @@ module _ (arch : Arch) (answers : Answers) (kept : List Func) (descriptions : Li
 
   pub holders_of_both : AreHolders arch (answers_of kept descriptions) kept descriptions
   holders_of_both = record {
-    kept_says = λ i d lt pc low high. same_answers pc ∙ h.kept_says i d lt pc low high;
-    omitted_says = λ i d lt pc low high. same_answers pc ∙ h.omitted_says i d lt pc low high;
-    none_says = λ pc no_kept no_omitted. same_answers pc ∙ h.none_says pc no_kept no_omitted;
+    kept_content = λ i d lt pc low high. same_answers pc ∙ h.kept_content i d lt pc low high;
+    omitted_content = λ i d lt pc low high. same_answers pc ∙ h.omitted_content i d lt pc low high;
+    no_content_there = λ pc no_kept no_omitted. same_answers pc ∙ h.no_content_there pc no_kept no_omitted;
     kept_rowed = h.kept_rowed;
     kept_rise = h.kept_rise;
     omitted_rise = h.omitted_rise;

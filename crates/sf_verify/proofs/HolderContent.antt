@@ -16,29 +16,29 @@ use Rattle.sf_model.specs.Lookup.{offset_in_block, row_at}
 use Rattle.sf_decode.specs.declared.iter.RowIter.{RowIter}
 use Rattle.sf_decode.specs.View.{head_of, rows_left}
 use Rattle.sf_express.specs.declared.content_ranges.ContentRange.{ContentRange}
-use Rattle.sf_express.specs.ContentRanges.{AreRanges, RangesSay, said_by}
+use Rattle.sf_express.specs.ContentRanges.{AreRanges, RangesHave, content_by}
 use Rattle.frame_functions.specs.Functions.{Function}
 use Rattle.sf_verify.specs.declared.dwarf_cursor.CurrentFunction.{CurrentFunction}
-use Rattle.frame_functions.specs.ContentAt.{AllFit, Answers, IfFits, form_content, said_in, with_key}
+use Rattle.frame_functions.specs.ContentAt.{AllFit, Answers, IfFits, form_content, content_in_function, with_key}
 use Rattle.sf_verify.specs.Asking.{AreHolders, IsHeld, IsKnownUpTo, IsRowed, KeptPassed, OmittedPassed}
-use Rattle.sf_verify.specs.Comparing.{func_read, func_says}
+use Rattle.sf_verify.specs.Comparing.{func_read, function_content}
 use Rattle.sf_verify.specs.SectionContent.{by_row}
 use Rattle.sf_verify.proofs.Rows.{as_ranges, as_ranges_are, as_ranges_fit, content_of_row, ranges_as_rows}
 
 -- ---- what is known
-said_fits : (arch : Arch) (o : ℕ) (found : Option (Option Content)) (ranges : List ContentRange) (content : Option Content) → ((c : Option Content) → found ≡ Some c → IfFits arch c) → AllFit arch ranges → said_by o found ranges ≡ Some content → IfFits arch content
+said_fits : (arch : Arch) (o : ℕ) (found : Option (Option Content)) (ranges : List ContentRange) (content : Option Content) → ((c : Option Content) → found ≡ Some c → IfFits arch c) → AllFit arch ranges → content_by o found ranges ≡ Some content → IfFits arch content
 said_fits arch o found [] content before h e = before content e
 said_fits arch o found (p ∷ ranges) content before h e =
     let P : ContentRange → Type 0 = λ (q : ContentRange). IfFits arch q.content in
     at_test (nat_le p.start o) e
     (said_fits arch o (Some p.content) ranges content (λ c same. let is : p.content ≡ c = cc in subst (IfFits arch) is (All-head P p ranges h)) (All-tail P p ranges h))
   where
-    at_test : (b : Bool) → cond b (said_by o (Some p.content) ranges) found ≡ Some content → (said_by o (Some p.content) ranges ≡ Some content → IfFits arch content) → IfFits arch content
+    at_test : (b : Bool) → cond b (content_by o (Some p.content) ranges) found ≡ Some content → (content_by o (Some p.content) ranges ≡ Some content → IfFits arch content) → IfFits arch content
     at_test true e later = later e
     at_test false e later = before content e
 
 pub known_is : (arch : Arch) (answers : Answers) (h : CurrentFunction) (pc last : ℕ) (content : Content) → IsHeld arch answers h → h.start ≤ pc → pc < h.start + h.size → pc - h.start ≤ last → last < h.size
-    → ((o : ℕ) → pc - h.start ≤ o → o ≤ last → said_by o None h.ranges.items ≡ Some (Some content))
+    → ((o : ℕ) → pc - h.start ≤ o → o ≤ last → content_by o None h.ranges.items ≡ Some (Some content))
     → IsKnownUpTo arch answers pc (record { said = record { content = content; key = h.key }; last = h.start + last })
 known_is arch answers h pc last content held from to low within said = record {
   from_here = omega (arith, from, low);
@@ -47,7 +47,7 @@ known_is arch answers h pc last content held from to low within said = record {
   fits = said_fits arch (pc - h.start) None h.ranges.items (Some content) (λ c same. cc) held.fits (said (pc - h.start) (omega arith) low);
 }
 
-pub nothing_known : (arch : Arch) (answers : Answers) (h : CurrentFunction) (pc : ℕ) → IsHeld arch answers h → h.start ≤ pc → pc < h.start + h.size → said_by (pc - h.start) None h.ranges.items ≡ Some None → answers pc ≡ None
+pub nothing_known : (arch : Arch) (answers : Answers) (h : CurrentFunction) (pc : ℕ) → IsHeld arch answers h → h.start ≤ pc → pc < h.start + h.size → content_by (pc - h.start) None h.ranges.items ≡ Some None → answers pc ≡ None
 nothing_known arch answers h pc held from to said = held.says pc None from to said
 
 -- ---- a kept function
@@ -55,7 +55,7 @@ by_plain : (f : Func) (shape : Shape) (found : Option Row) → shape ≡ Plain �
 by_plain f shape None plain is = refl
 by_plain f shape (Some r) plain is = let same : f.shape ≡ Plain = is ∙ plain in rw same refl
 
-pub plain_says : (f : Func) (pc : ℕ) → f.shape ≡ Plain → func_says f pc ≡ option_map (with_key f.key) (option_map (λ (r : Row). r.content) (row_at (pc - f.start) f.rows))
+pub plain_says : (f : Func) (pc : ℕ) → f.shape ≡ Plain → function_content f pc ≡ option_map (with_key f.key) (option_map (λ (r : Row). r.content) (row_at (pc - f.start) f.rows))
 plain_says f pc plain =
     ap (λ (s : Shape). option_and_then by_row (option_map (λ (row : Row). record { func = f; row = row }) (row_at (offset_in_block s (pc - f.start)) f.rows))) plain
     ∙ by_plain f f.shape (row_at (pc - f.start) f.rows) plain refl
@@ -70,14 +70,14 @@ record IsTaken (h : CurrentFunction) (f : Func) : Type 0 where
   key : h.key ≡ f.key
   ranges : h.ranges.items ≡ as_ranges f.rows
 
-taken_held : (arch : Arch) (answers : Answers) (h : CurrentFunction) (f : Func) → IsTaken h f → IsRowed arch f → ((pc : ℕ) → f.start ≤ pc → pc < f.start + f.size → answers pc ≡ func_says f pc) → IsHeld arch answers h
+taken_held : (arch : Arch) (answers : Answers) (h : CurrentFunction) (f : Func) → IsTaken h f → IsRowed arch f → ((pc : ℕ) → f.start ≤ pc → pc < f.start + f.size → answers pc ≡ function_content f pc) → IsHeld arch answers h
 taken_held arch answers h f t rowed holds = record {
   end = rw (t.start, t.size) rowed.end;
   ranges = λ some. rw (t.size, t.ranges) (as_ranges_are f.size f.rows rowed.first rowed.rise rowed.below);
   says = λ pc content from to said.
       let from' : f.start ≤ pc = omega (arith, from, t.start) in
       let to' : pc < f.start + f.size = omega (arith, to, t.start, t.size) in
-      let said' : said_by (pc - f.start) None (as_ranges f.rows) ≡ Some content = subst (λ (k : ℕ). said_by (pc - k) None (as_ranges f.rows) ≡ Some content) t.start (subst (λ (ps : List ContentRange). said_by (pc - h.start) None ps ≡ Some content) t.ranges said) in
+      let said' : content_by (pc - f.start) None (as_ranges f.rows) ≡ Some content = subst (λ (k : ℕ). content_by (pc - k) None (as_ranges f.rows) ≡ Some content) t.start (subst (λ (ps : List ContentRange). content_by (pc - h.start) None ps ≡ Some content) t.ranges said) in
       let row : content_of_row (row_at (pc - f.start) f.rows) ≡ Some content = sym (ranges_as_rows (pc - f.start) f.rows rowed.rise) ∙ said' in
       holds pc from' to' ∙ plain_says f pc rowed.plain ∙ ap (option_map (with_key f.key)) (row_content (row_at (pc - f.start) f.rows) content row) ∙ ap (λ k. option_map (with_key k) content) (sym t.key);
   fits = subst (AllFit arch) (sym t.ranges) (as_ranges_fit arch f.rows rowed.fits);
@@ -88,7 +88,7 @@ pub kept_held : (arch : Arch) (answers : Answers) (kept : List Func) (omitted : 
 kept_held arch answers kept omitted place f h holders lt is start size key ranges =
     let taken : IsTaken h f = record { start = start; size = size; key = key; ranges = ranges } in
     taken_held arch answers h f taken (subst (IsRowed arch) (sym is) (holders.kept_rowed place f lt))
-    (λ pc from to. subst (λ (g : Func). g.start ≤ pc → pc < g.start + g.size → answers pc ≡ func_says g pc) (sym is) (holders.kept_says place f lt pc) from to)
+    (λ pc from to. subst (λ (g : Func). g.start ≤ pc → pc < g.start + g.size → answers pc ≡ function_content g pc) (sym is) (holders.kept_content place f lt pc) from to)
 
 -- the function of a head and of rows that were read
 read_is : (f : Func) (head : FuncHead) (rows : RowIter) → head_of f ≡ head → rows_left rows ≡ f.rows → f ≡ func_read head rows
@@ -98,24 +98,24 @@ read_is f head rows is same =
 
 -- a kept function that was read says what is said at each of its addresses
 pub kept_alike : (arch : Arch) (answers : Answers) (kept : List Func) (omitted : List Function) (place : ℕ) (d : Func) (head : FuncHead) (rows : RowIter) → AreHolders arch answers kept omitted → place < length kept
-    → head_of (get_or kept place d) ≡ head → rows_left rows ≡ (get_or kept place d).rows → (pc : ℕ) → head.start ≤ pc → pc < head.start + head.size → answers pc ≡ func_says (func_read head rows) pc
+    → head_of (get_or kept place d) ≡ head → rows_left rows ≡ (get_or kept place d).rows → (pc : ℕ) → head.start ≤ pc → pc < head.start + head.size → answers pc ≡ function_content (func_read head rows) pc
 kept_alike arch answers kept omitted place d head rows holders lt is same pc from to =
     let f : Func = get_or kept place d in
     let start : f.start ≡ head.start = ap (λ (h : FuncHead). h.start) is in
     let size : f.size ≡ head.size = ap (λ (h : FuncHead). h.size) is in
-    holders.kept_says place d lt pc (omega (arith, from, start)) (omega (arith, to, start, size)) ∙ ap (λ (g : Func). func_says g pc) (read_is f head rows is same)
+    holders.kept_content place d lt pc (omega (arith, from, start)) (omega (arith, to, start, size)) ∙ ap (λ (g : Func). function_content g pc) (read_is f head rows is same)
 
 -- ---- an omitted function
 pub omitted_held : (arch : Arch) (answers : Answers) (kept : List Func) (omitted : List Function) (place : ℕ) (f : Function) (h : CurrentFunction) → AreHolders arch answers kept omitted → place < length omitted → f ≡ get_or omitted place f → f.start + f.size ≤ 2 ^ 64
-    → h.start ≡ f.start → h.size ≡ f.size → h.key ≡ f.key → AreRanges f.size h.ranges.items → RangesSay f.size h.ranges.items (form_content f) → AllFit f.arch h.ranges.items → IsHeld arch answers h
+    → h.start ≡ f.start → h.size ≡ f.size → h.key ≡ f.key → AreRanges f.size h.ranges.items → RangesHave f.size h.ranges.items (form_content f) → AllFit f.arch h.ranges.items → IsHeld arch answers h
 omitted_held arch answers kept omitted place f h holders lt is end start size key ranges say fit = record {
   end = rw (start, size) end;
   ranges = λ some. rw size ranges;
   says = λ pc content from to said.
       let from' : f.start ≤ pc = omega (arith, from, start) in
       let to' : pc < f.start + f.size = omega (arith, to, start, size) in
-      let here = subst (λ (g : Function). g.start ≤ pc → pc < g.start + g.size → answers pc ≡ said_in pc g) (sym is) (holders.omitted_says place f lt pc) from' to' in
-      let there : said_by (pc - h.start) None h.ranges.items ≡ Some (form_content f (pc - h.start)) = say (pc - h.start) (omega (arith, from, to, size)) in
+      let here = subst (λ (g : Function). g.start ≤ pc → pc < g.start + g.size → answers pc ≡ content_in_function pc g) (sym is) (holders.omitted_content place f lt pc) from' to' in
+      let there : content_by (pc - h.start) None h.ranges.items ≡ Some (form_content f (pc - h.start)) = say (pc - h.start) (omega (arith, from, to, size)) in
       let same : form_content f (pc - h.start) ≡ content = let e = sym there ∙ said in cc in
       here ∙ ap (λ (k : ℕ). option_map (with_key f.key) (form_content f (pc - k))) (sym start) ∙ ap (option_map (with_key f.key)) same ∙ ap (λ k. option_map (with_key k) content) (sym key);
   fits = subst (λ (a : Arch). AllFit a h.ranges.items) (ap (λ (g : Function). g.arch) is ∙ holders.omitted_here place f lt) fit;

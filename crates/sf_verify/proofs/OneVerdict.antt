@@ -19,7 +19,7 @@ use Rattle.sf_asm.specs.Linking.{GathersFrom, functions_fault, unless_fault}
 use Rattle.sf_asm.proofs.Described.{described, from_gathers}
 use Rattle.sf_asm.proofs.OneOrder.{one_order}
 use Rattle.sf_verify.specs.declared.fault.VerifyFault.{VerifyFault}
-use Rattle.sf_verify.specs.Agreement.{DifferFirst, IsVerdict, content_said}
+use Rattle.sf_verify.specs.Agreement.{DifferFirst, IsVerdict, without_key}
 use Rattle.frame_functions.specs.ContentAt.{dwarf_at}
 use Rattle.sf_verify.specs.SectionContent.{section_at}
 use Rattle.sf_verify.specs.Verifying.{Verifies, VerdictUnless, first_verify_fault, section_fault, sized_in}
@@ -50,9 +50,9 @@ verdict_one section functions (Agrees checked missing repeats) (Differs pc ours 
 verdict_one section functions (Differs pc ours theirs) (Agrees checked missing repeats) p q = absurd (p.differ (q.agree pc))
 verdict_one section functions (Differs pc ours theirs) (Differs pc' ours' theirs') p q =
     let same = one_address section functions pc pc' ours ours' theirs theirs' p q in
-    let contents : Some ours ≡ Some ours' = sym p.section_says ∙ ap (λ (n : ℕ). content_said (section_at section n)) same ∙ q.section_says in
+    let contents : Some ours ≡ Some ours' = sym p.section_content ∙ ap (λ (n : ℕ). without_key (section_at section n)) same ∙ q.section_content in
     let one : ours ≡ ours' = cc in
-    let other : theirs ≡ theirs' = sym p.dwarf_says ∙ ap (λ (n : ℕ). content_said (dwarf_at functions n)) same ∙ q.dwarf_says in
+    let other : theirs ≡ theirs' = sym p.dwarf_content ∙ ap (λ (n : ℕ). without_key (dwarf_at functions n)) same ∙ q.dwarf_content in
     ap (λ (n : ℕ). Differs n ours theirs) same ∙ ap (λ (c : Content). Differs pc' c theirs) one ∙ ap (λ (o : Option Content). Differs pc' ours' o) other
 
 -- ---- the result

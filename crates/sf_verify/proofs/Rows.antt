@@ -12,7 +12,7 @@ use Rattle.sf_model.specs.Function.{RowsRise}
 use Rattle.sf_model.specs.Lookup.{row_at}
 use Rattle.sf_lookup.proofs.Rows.{Rise, latest, latest_begun, latest_holds, latest_stops, rises, starts_from}
 use Rattle.sf_express.specs.declared.content_ranges.ContentRange.{ContentRange}
-use Rattle.sf_express.specs.ContentRanges.{AreRanges, RangesBegin, RangesRise, range_of_row, said_by}
+use Rattle.sf_express.specs.ContentRanges.{AreRanges, RangesBegin, RangesRise, range_of_row, content_by}
 use Rattle.frame_functions.specs.ContentAt.{AllFit, IfFits}
 use Rattle.sf_verify.specs.Asking.{RowsBegin}
 
@@ -55,16 +55,16 @@ as_ranges rows = map range_of_row rows
 abbrev pub content_of_row : Option Row → Option (Option Content)
 content_of_row found = option_map (λ (r : Row). Some r.content) found
 
-said_latest : (o : ℕ) (found : Option Row) (rows : List Row) → said_by o (content_of_row found) (as_ranges rows) ≡ content_of_row (latest o found rows)
+said_latest : (o : ℕ) (found : Option Row) (rows : List Row) → content_by o (content_of_row found) (as_ranges rows) ≡ content_of_row (latest o found rows)
 said_latest o found [] = refl
 said_latest o found (r ∷ rows) = at_test (nat_le r.start o) refl (said_latest o (Some r) rows)
   where
-    at_test : (b : Bool) → nat_le r.start o ≡ b → said_by o (Some (Some r.content)) (as_ranges rows) ≡ content_of_row (latest o (Some r) rows)
-        → said_by o (content_of_row found) (range_of_row r ∷ as_ranges rows) ≡ content_of_row (latest o found (r ∷ rows))
+    at_test : (b : Bool) → nat_le r.start o ≡ b → content_by o (Some (Some r.content)) (as_ranges rows) ≡ content_of_row (latest o (Some r) rows)
+        → content_by o (content_of_row found) (range_of_row r ∷ as_ranges rows) ≡ content_of_row (latest o found (r ∷ rows))
     at_test true e later = rw e later
     at_test false e later = rw e refl
 
-pub ranges_as_rows : (o : ℕ) (rows : List Row) → RowsRise rows → said_by o None (as_ranges rows) ≡ content_of_row (row_at o rows)
+pub ranges_as_rows : (o : ℕ) (rows : List Row) → RowsRise rows → content_by o None (as_ranges rows) ≡ content_of_row (row_at o rows)
 ranges_as_rows o rows h = said_latest o None rows ∙ ap content_of_row (latest_holds o rows h)
 
 as_ranges_rise : (least : ℕ) (rows : List Row) → Rise least rows → RangesRise least (as_ranges rows)

@@ -96,9 +96,9 @@ find_sized pc (l ∷ ls) = at_size (is_sized l) refl (find_sized pc ls)
     at_size false e others = others ∙ sym (ap (λ (b : Bool). cond b (Some l.func) (find (contains pc) (located_functions ls))) (not_there (contains pc l.func) refl e))
 
 -- what the section says, by its functions in order
-pub section_says : (bytes : List ℕ) (table : Table) (ordered : List Located) → IsInOrder located_start (sized_in table) ordered → section_fault bytes ordered ≡ None → (pc : ℕ) → section_at (located_functions ordered) pc ≡ section_at table.functions pc
+pub section_content : (bytes : List ℕ) (table : Table) (ordered : List Located) → IsInOrder located_start (sized_in table) ordered → section_fault bytes ordered ≡ None → (pc : ℕ) → section_at (located_functions ordered) pc ≡ section_at table.functions pc
 unfolding section_at found_at
-section_says bytes table ordered order e pc =
+section_content bytes table ordered order e pc =
     let found : find (contains pc) table.functions ≡ find (contains pc) (located_functions ordered) =
     ap (find (contains pc)) (sym (located_are table)) ∙ sym (find_sized pc (located 0 table))
     ∙ found_alike (contains pc) (located_functions (sized_in table)) (located_functions ordered) (IsPermutation-map (λ (l : Located). l.func) (sized_in table) ordered order.moved) (one_contains pc ordered (apart bytes ordered e)) in

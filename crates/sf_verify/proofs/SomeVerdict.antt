@@ -29,7 +29,7 @@ use Rattle.sf_functions.proofs.ByStart.{by_key, in_order}
 use Rattle.sf_asm.proofs.Described.{describe, to_gathers}
 use Rattle.sf_asm.proofs.GatheredInputs.{are_read}
 use Rattle.sf_verify.specs.declared.fault.VerifyFault.{VerifyFault}
-use Rattle.sf_verify.specs.Agreement.{Agree, DifferFirst, IsFitting, IsVerdict, agree, content_said, is_missing, is_plain}
+use Rattle.sf_verify.specs.Agreement.{Agree, DifferFirst, IsFitting, IsVerdict, agree, without_key, is_missing, is_plain}
 use Rattle.sf_verify.specs.SectionContent.{by_row, section_at}
 use Rattle.sf_verify.specs.Verifying.{Verifies, VerdictUnless, first_verify_fault, refused, section_fault, sized_in}
 use Rattle.sf_verify.proofs.AlikeContents.{alike, says_agree}
@@ -97,7 +97,7 @@ differ_first section dwarf d = at_said (section d.pc) refl
   where
     at_said : (said : Option KeyedContent) → section d.pc ≡ said → (ours : Content) × (theirs : Option Content) × DifferFirst section dwarf d.pc ours theirs
     at_said None e = absurd (d.differ (subst (λ (s : Option KeyedContent). Agree s (dwarf d.pc)) (sym e) tt))
-    at_said (Some s) e = (s.content, content_said (dwarf d.pc), record { section_says = ap content_said e; dwarf_says = refl; differ = d.differ; before = d.before })
+    at_said (Some s) e = (s.content, without_key (dwarf d.pc), record { section_content = ap without_key e; dwarf_content = refl; differ = d.differ; before = d.before })
 
 by_difference : (section : List Func) (functions : List Function) → AgreeBelow (section_at section) (dwarf_at functions) (all_ends section) ⊎ DifferAt (section_at section) (dwarf_at functions) → (verdict : Verdict) × IsVerdict section functions verdict
 by_difference section functions (inl below) = (

@@ -16,7 +16,7 @@ use Rattle.frame_functions.specs.declared.keyed_content.KeyedContent.{KeyedConte
 use Rattle.sf_verify.specs.declared.sweep.Difference.{Difference}
 use Rattle.sf_verify.specs.Agreement.{Agree, DifferFirst, is_plain, is_plain_shape}
 use Rattle.sf_merge.specs.Located.{located_functions}
-use Rattle.sf_verify.specs.Comparing.{Compares, ComparesAll, DifferWithin, func_says}
+use Rattle.sf_verify.specs.Comparing.{Compares, ComparesAll, DifferWithin, function_content}
 use Rattle.frame_functions.specs.ContentAt.{Answers}
 use Rattle.sf_verify.specs.SectionContent.{by_row, section_at}
 use Rattle.sf_verify.proofs.Compared.{compare_alike}
@@ -58,7 +58,7 @@ not_contained pc f false e never = refl
 
 -- what the section says at an address of a function
 pub says_there : (functions : List Located) (place : ℕ) (d : Located) (pc : ℕ) → ((i j : ℕ) (d : Located) → i < j → j < length functions → (get_or functions i d).func.start + (get_or functions i d).func.size ≤ (get_or functions j d).func.start)
-    → place < length functions → (get_or functions place d).func.start ≤ pc → pc < (get_or functions place d).func.start + (get_or functions place d).func.size → func_says (get_or functions place d).func pc ≡ section_at (located_functions functions) pc
+    → place < length functions → (get_or functions place d).func.start ≤ pc → pc < (get_or functions place d).func.start + (get_or functions place d).func.size → function_content (get_or functions place d).func pc ≡ section_at (located_functions functions) pc
 unfolding section_at found_at
 says_there functions place d pc apart lt low high =
     let has = is_contained pc (get_or functions place d).func low high in
@@ -99,14 +99,14 @@ agree_everywhere functions dwarf place all over pc = agree_below functions dwarf
 -- a function in which they differ
 pub differ_at : (functions : List Located) (dwarf : Answers) (place : ℕ) (l : Located) (result : Option Difference) (d : Difference) → ((i j : ℕ) (d : Located) → i < j → j < length functions → (get_or functions i d).func.start + (get_or functions i d).func.size ≤ (get_or functions j d).func.start)
     → place < length functions → l ≡ get_or functions place l → ((i : ℕ) (d : Located) → i < place → i < length functions → AgreeOver (section_at (located_functions functions)) dwarf (get_or functions i d).func)
-    → result ≡ Some d → Compares (func_says l.func) dwarf l.func.start (l.func.start + l.func.size) result → DifferFirst (section_at (located_functions functions)) dwarf d.pc d.section d.dwarf
+    → result ≡ Some d → Compares (function_content l.func) dwarf l.func.start (l.func.start + l.func.size) result → DifferFirst (section_at (located_functions functions)) dwarf d.pc d.section d.dwarf
 differ_at functions dwarf place l result d apart lt is over result_is h =
-    let here = subst (λ (r : Option Difference). Compares (func_says l.func) dwarf l.func.start (l.func.start + l.func.size) r) result_is h in
-    let there : DifferWithin (section_at (located_functions functions)) dwarf l.func.start (l.func.start + l.func.size) d = compare_alike (func_says l.func) (section_at (located_functions functions)) dwarf l.func.start (l.func.start + l.func.size) (Some d)
-    (λ pc low high. subst (λ (g : Located). g.func.start ≤ pc → pc < g.func.start + g.func.size → func_says g.func pc ≡ section_at (located_functions functions) pc) (sym is) (says_there functions place l pc apart lt) low high) here in
+    let here = subst (λ (r : Option Difference). Compares (function_content l.func) dwarf l.func.start (l.func.start + l.func.size) r) result_is h in
+    let there : DifferWithin (section_at (located_functions functions)) dwarf l.func.start (l.func.start + l.func.size) d = compare_alike (function_content l.func) (section_at (located_functions functions)) dwarf l.func.start (l.func.start + l.func.size) (Some d)
+    (λ pc low high. subst (λ (g : Located). g.func.start ≤ pc → pc < g.func.start + g.func.size → function_content g.func pc ≡ section_at (located_functions functions) pc) (sym is) (says_there functions place l pc apart lt) low high) here in
     record {
-      section_says = there.section_says;
-      dwarf_says = there.dwarf_says;
+      section_content = there.section_content;
+      dwarf_content = there.dwarf_content;
       differ = there.differ;
       before = λ pc less. elim (cases_lt pc l.func.start) [
         | inl earlier ↦ agree_below functions dwarf place l.func.start over (λ i e low within. by_place i e low within) pc earlier
@@ -129,10 +129,10 @@ differ_at functions dwarf place l result d apart lt is over result_is h =
 
 -- a function over which they agree
 pub agree_at : (functions : List Located) (dwarf : Answers) (place : ℕ) (l : Located) (result : Option Difference) → ((i j : ℕ) (d : Located) → i < j → j < length functions → (get_or functions i d).func.start + (get_or functions i d).func.size ≤ (get_or functions j d).func.start)
-    → place < length functions → l ≡ get_or functions place l → result ≡ None → Compares (func_says l.func) dwarf l.func.start (l.func.start + l.func.size) result → AgreeOver (section_at (located_functions functions)) dwarf l.func
+    → place < length functions → l ≡ get_or functions place l → result ≡ None → Compares (function_content l.func) dwarf l.func.start (l.func.start + l.func.size) result → AgreeOver (section_at (located_functions functions)) dwarf l.func
 agree_at functions dwarf place l result apart lt is none h =
-    let here = subst (λ (r : Option Difference). Compares (func_says l.func) dwarf l.func.start (l.func.start + l.func.size) r) none h in
-    λ pc low high. subst (λ x. Agree x (dwarf pc)) (subst (λ (g : Located). g.func.start ≤ pc → pc < g.func.start + g.func.size → func_says g.func pc ≡ section_at (located_functions functions) pc) (sym is) (says_there functions place l pc apart lt) low high) (here pc low high)
+    let here = subst (λ (r : Option Difference). Compares (function_content l.func) dwarf l.func.start (l.func.start + l.func.size) r) none h in
+    λ pc low high. subst (λ x. Agree x (dwarf pc)) (subst (λ (g : Located). g.func.start ≤ pc → pc < g.func.start + g.func.size → function_content g.func pc ≡ section_at (located_functions functions) pc) (sym is) (says_there functions place l pc apart lt) low high) (here pc low high)
 
 -- a function of repeated blocks is not compared
 repeated_says : (f : Func) (shape : Shape) (found : Option Row) → f.shape ≡ shape → is_plain_shape shape ≡ false → option_and_then by_row (option_map (λ (row : Row). record { func = f; row = row }) found) ≡ None
@@ -143,13 +143,13 @@ repeated_says f (Repeat size) (Some r) is h = rw is refl
 pub repeated_over : (functions : List Located) (dwarf : Answers) (place : ℕ) (l : Located) → ((i j : ℕ) (d : Located) → i < j → j < length functions → (get_or functions i d).func.start + (get_or functions i d).func.size ≤ (get_or functions j d).func.start)
     → place < length functions → l ≡ get_or functions place l → is_plain l.func ≡ false → AgreeOver (section_at (located_functions functions)) dwarf l.func
 repeated_over functions dwarf place l apart lt is repeated = λ pc low high.
-    let same = subst (λ (g : Located). g.func.start ≤ pc → pc < g.func.start + g.func.size → func_says g.func pc ≡ section_at (located_functions functions) pc) (sym is) (says_there functions place l pc apart lt) low high in
+    let same = subst (λ (g : Located). g.func.start ≤ pc → pc < g.func.start + g.func.size → function_content g.func pc ≡ section_at (located_functions functions) pc) (sym is) (says_there functions place l pc apart lt) low high in
     agree_if (section_at (located_functions functions) pc) (dwarf pc) (sym same ∙ repeated_says l.func l.func.shape (row_at (offset_in_block l.func.shape (pc - l.func.start)) l.func.rows) refl repeated)
 
 -- ---- the loop
 pub differ_found : (functions : List Located) (dwarf : Answers) (place : ℕ) (l : Located) (result : Option Difference) → is_some result ≡ true → ((i j : ℕ) (d : Located) → i < j → j < length functions → (get_or functions i d).func.start + (get_or functions i d).func.size ≤ (get_or functions j d).func.start)
     → place < length functions → l ≡ get_or functions place l → ((i : ℕ) (d : Located) → i < place → i < length functions → AgreeOver (section_at (located_functions functions)) dwarf (get_or functions i d).func)
-    → Compares (func_says l.func) dwarf l.func.start (l.func.start + l.func.size) result → ComparesAll (section_at (located_functions functions)) dwarf result
+    → Compares (function_content l.func) dwarf l.func.start (l.func.start + l.func.size) result → ComparesAll (section_at (located_functions functions)) dwarf result
 differ_found functions dwarf place l None t apart lt is over h = cc
 differ_found functions dwarf place l (Some d) t apart lt is over h = differ_at functions dwarf place l (Some d) d apart lt is over refl h
 

@@ -30,7 +30,7 @@ use Rattle.sf_asm.proofs.OneHolder.{gathered_apart, kept_size}
 use Rattle.sf_asm.proofs.OneMachine.{machine_of_functions}
 use Rattle.sf_verify.specs.declared.fault.VerifyFault.{VerifyFault}
 use Rattle.sf_verify.specs.declared.fault.VerifyFault.TheVariants as verify
-use Rattle.sf_verify.specs.Agreement.{Agree, DifferFirst, IsVerdict, content_said, is_plain, represents}
+use Rattle.sf_verify.specs.Agreement.{Agree, DifferFirst, IsVerdict, without_key, is_plain, represents}
 use Rattle.sf_verify.specs.Asking.{AreHolders, answers_of}
 use Rattle.sf_verify.specs.Comparing.{AreComparable}
 use Rattle.sf_verify.specs.Concluding.{IsVerdictBy}
@@ -40,7 +40,7 @@ use Rattle.sf_verify.specs.SectionContent.{section_at}
 use Rattle.sf_verify.specs.Verifying.{IsFirstVerifyFault, Verifies, VerdictUnless, refused, section_fault, sized_in}
 use Rattle.sf_verify.proofs.Counted.{missing_are}
 use Rattle.sf_verify.proofs.Gathered.{expressed_of, holders, holders_of_both, kept_are, same_answers}
-use Rattle.sf_verify.proofs.Sections.{any_sized, comparable, section_says, starts_rise}
+use Rattle.sf_verify.proofs.Sections.{any_sized, comparable, section_content, starts_rise}
 
 -- ---- the same at each address
 agree_alike : (s t d e : Option _) → s ≡ t → d ≡ e → Agree s d → Agree t e
@@ -48,8 +48,8 @@ agree_alike s t d e p q h = subst (λ x. Agree x e) p (subst (λ y. Agree s y) q
 
 first_alike : (section other dwarf real : Answers) (pc : ℕ) (ours : _) (theirs : _) → ((pc : ℕ) → section pc ≡ other pc) → ((pc : ℕ) → dwarf pc ≡ real pc) → DifferFirst section dwarf pc ours theirs → DifferFirst other real pc ours theirs
 first_alike section other dwarf real pc ours theirs p q h = record {
-  section_says = ap content_said (sym (p pc)) ∙ h.section_says;
-  dwarf_says = ap content_said (sym (q pc)) ∙ h.dwarf_says;
+  section_content = ap without_key (sym (p pc)) ∙ h.section_content;
+  dwarf_content = ap without_key (sym (q pc)) ∙ h.dwarf_content;
   differ = λ agree. h.differ (agree_alike (other pc) (section pc) (real pc) (dwarf pc) (sym (p pc)) (sym (q pc)) agree);
   before = λ least lt. agree_alike (section least) (other least) (dwarf least) (real least) (p least) (q least) (h.before least lt);
 }
@@ -110,7 +110,7 @@ is_verified view objects arch kept omitted descriptions ordered verdict h machin
     let table = table_of view in
     let hold = have_holders table.arch objects arch kept omitted descriptions h machine in
     let verdict' = verdict_is table.functions (located_functions ordered) kept h.functions h.sorted (answers_of kept descriptions) verdict
-    (section_says (section_bytes view) table ordered order none) (same_answers arch (dwarf_at h.functions) kept descriptions hold) (h.kept_are ∙ kept_are h.sorted) h.by_start.moved
+    (section_content (section_bytes view) table ordered order none) (same_answers arch (dwarf_at h.functions) kept descriptions hold) (h.kept_are ∙ kept_are h.sorted) h.by_start.moved
     (λ f k. any_sized (represents_kept (expressed_of f)) table ordered order (λ g e. covered_size f g k (kept_size f k) e)) is in
     (Ok (map read_of h.sorted), h.is, ordered, order, subst (λ (fault : Option VerifyFault). VerdictUnless fault table objects (Ok verdict)) (sym none) (h.functions, h.are, verdict, verdict', refl))
 

@@ -34,13 +34,13 @@ Agree (Some s) None = ⊥
 Agree (Some s) (Some d) = RecoverSameFrame s d
 
 -- the content without its key
-abbrev pub content_said : Option KeyedContent → Option Content
-content_said said = option_map (λ (s : KeyedContent). s.content) said
+abbrev pub without_key : Option KeyedContent → Option Content
+without_key said = option_map (λ (s : KeyedContent). s.content) said
 
 -- this is the least address at which section and call frame information don't agree, and these are their contents there
 pub record DifferFirst (section dwarf : Answers) (pc : ℕ) (ours : Content) (theirs : Option Content) : Type 0 where
-  pub section_says : content_said (section pc) ≡ Some ours
-  pub dwarf_says : content_said (dwarf pc) ≡ theirs
+  pub section_content : without_key (section pc) ≡ Some ours
+  pub dwarf_content : without_key (dwarf pc) ≡ theirs
   pub differ : Agree (section pc) (dwarf pc) → ⊥
   pub before : (least : ℕ) → least < pc → Agree (section least) (dwarf least)
 

@@ -11,21 +11,21 @@ use Rattle.sf_model.specs.Content.{content_fits}
 use Rattle.sf_model.specs.Function.{RowsRise}
 use Rattle.sf_model.specs.Lookup.{contains}
 use Rattle.sf_write.specs.Stored.{stored_in}
-use Rattle.sf_express.specs.ContentRanges.{AreRanges, said_by}
+use Rattle.sf_express.specs.ContentRanges.{AreRanges, content_by}
 use Rattle.frame_functions.specs.Functions.{holds_address, Function}
 use Rattle.frame_functions.specs.declared.function_list.InputFunctions.{InputFunctions}
 use Rattle.frame_functions.specs.declared.keyed_content.KeyedContent.{KeyedContent}
-use Rattle.frame_functions.specs.ContentAt.{AllFit, Answers, said_in, with_key}
+use Rattle.frame_functions.specs.ContentAt.{AllFit, Answers, content_in_function, with_key}
 use Rattle.sf_verify.specs.declared.dwarf_cursor.DwarfCursor.{DwarfCursor}
 use Rattle.sf_verify.specs.declared.dwarf_cursor.CurrentFunction.{CurrentFunction}
 use Rattle.sf_verify.specs.declared.dwarf_cursor.ContentUntil.{ContentUntil}
-use Rattle.sf_verify.specs.Comparing.{func_says}
+use Rattle.sf_verify.specs.Comparing.{function_content}
 
 -- ---- the contents by both lists
 -- the content at an address by the kept function that contains it, or else by the omitted one
 abbrev pub by_holder : (pc : ℕ) → (kept : Option Func) → (omitted : Option Function) → Option KeyedContent
-by_holder pc (Some f) omitted = func_says f pc
-by_holder pc None omitted = option_and_then (said_in pc) omitted
+by_holder pc (Some f) omitted = function_content f pc
+by_holder pc None omitted = option_and_then (content_in_function pc) omitted
 
 -- the content at each address, by kept and omitted functions
 unfoldable pub answers_of : (kept : List Func) → (omitted : List Function) → Answers
@@ -36,8 +36,8 @@ abbrev pub kept_in : InputFunctions → List Func
 kept_in functions = map (stored_in functions.rows) functions.kept
 
 -- the content at each address, by the lists that are held
-abbrev pub says : DwarfCursor → Answers
-says d = answers_of d.kept d.omitted.now.functions
+abbrev pub contents_of : DwarfCursor → Answers
+contents_of d = answers_of d.kept d.omitted.now.functions
 
 -- the first row begins at 0
 abbrev pub RowsBegin : List Row → Type 0
@@ -55,9 +55,9 @@ pub record IsRowed (arch : Arch) (f : Func) : Type 0 where
 
 -- these are the contents by the two lists, in which at most one function contains an address
 pub record AreHolders (arch : Arch) (answers : Answers) (kept : List Func) (omitted : List Function) : Type 0 where
-  pub kept_says : (i : ℕ) (d : Func) → i < length kept → (pc : ℕ) → (get_or kept i d).start ≤ pc → pc < (get_or kept i d).start + (get_or kept i d).size → answers pc ≡ func_says (get_or kept i d) pc
-  pub omitted_says : (i : ℕ) (d : Function) → i < length omitted → (pc : ℕ) → (get_or omitted i d).start ≤ pc → pc < (get_or omitted i d).start + (get_or omitted i d).size → answers pc ≡ said_in pc (get_or omitted i d)
-  pub none_says : (pc : ℕ) → ((i : ℕ) (d : Func) → i < length kept → (get_or kept i d).start ≤ pc → pc < (get_or kept i d).start + (get_or kept i d).size → ⊥)
+  pub kept_content : (i : ℕ) (d : Func) → i < length kept → (pc : ℕ) → (get_or kept i d).start ≤ pc → pc < (get_or kept i d).start + (get_or kept i d).size → answers pc ≡ function_content (get_or kept i d) pc
+  pub omitted_content : (i : ℕ) (d : Function) → i < length omitted → (pc : ℕ) → (get_or omitted i d).start ≤ pc → pc < (get_or omitted i d).start + (get_or omitted i d).size → answers pc ≡ content_in_function pc (get_or omitted i d)
+  pub no_content_there : (pc : ℕ) → ((i : ℕ) (d : Func) → i < length kept → (get_or kept i d).start ≤ pc → pc < (get_or kept i d).start + (get_or kept i d).size → ⊥)
       → ((i : ℕ) (d : Function) → i < length omitted → (get_or omitted i d).start ≤ pc → pc < (get_or omitted i d).start + (get_or omitted i d).size → ⊥) → answers pc ≡ None
   -- both lists are by rising start, of functions of this machine
   pub kept_rowed : All (IsRowed arch) kept
@@ -70,7 +70,7 @@ pub record AreHolders (arch : Arch) (answers : Answers) (kept : List Func) (omit
 pub record IsHeld (arch : Arch) (answers : Answers) (h : CurrentFunction) : Type 0 where
   pub end : h.start + h.size ≤ 2 ^ 64
   pub ranges : 0 < h.size → AreRanges h.size h.ranges.items
-  pub says : (pc : ℕ) (content : Option Content) → h.start ≤ pc → pc < h.start + h.size → said_by (pc - h.start) None h.ranges.items ≡ Some content
+  pub says : (pc : ℕ) (content : Option Content) → h.start ≤ pc → pc < h.start + h.size → content_by (pc - h.start) None h.ranges.items ≡ Some content
       → answers pc ≡ option_map (with_key h.key) content
   pub fits : AllFit arch h.ranges.items
 
@@ -84,8 +84,8 @@ OmittedPassed omitted next pc = (i : ℕ) (d : Function) → i < next → i < le
 
 -- the content at each address from this one on can be found
 pub record IsReady (d : DwarfCursor) (pc : ℕ) : Type 0 where
-  pub holders : AreHolders d.arch (says d) d.kept d.omitted.now.functions
-  pub held : IsHeld d.arch (says d) d.held
+  pub holders : AreHolders d.arch (contents_of d) d.kept d.omitted.now.functions
+  pub held : IsHeld d.arch (contents_of d) d.held
   pub kept_passed : KeptPassed d.kept d.next_kept pc
   pub omitted_passed : OmittedPassed d.omitted.now.functions d.next_omitted pc
 
@@ -94,7 +94,7 @@ pub record IsSame (d e : DwarfCursor) : Type 0 where
   pub arch : e.arch ≡ d.arch
   pub kept : e.kept ≡ d.kept
   pub omitted : e.omitted.now ≡ d.omitted.now
-  pub says : says e ≡ says d
+  pub says : contents_of e ≡ contents_of d
 
 -- the function that is held contains the address, or no kept function does
 abbrev pub FindsKept : DwarfCursor → (pc : ℕ) → Bool → Type 0
@@ -109,7 +109,7 @@ FindsOmitted d pc false = (i : ℕ) (f : Function) → i < length d.omitted.now.
 -- the function that is held contains the address, or there is no content
 abbrev pub Finds : DwarfCursor → (pc : ℕ) → Bool → Type 0
 Finds d pc true = (d.held.start ≤ pc) × (pc < d.held.start + d.held.size)
-Finds d pc false = says d pc ≡ None
+Finds d pc false = contents_of d pc ≡ None
 
 -- the content that is known at an address is the content there, and up to the last address to which it is known
 pub record IsKnownUpTo (arch : Arch) (answers : Answers) (pc : ℕ) (known : ContentUntil) : Type 0 where

@@ -13,7 +13,7 @@ use Rattle.sf_decode.specs.declared.iter.RowIter.{RowIter}
 use Rattle.sf_decode.specs.View.{rows_left}
 use Rattle.sf_merge.specs.declared.located.Located.{Located}
 use Rattle.sf_verify.specs.declared.sweep.Difference.{Difference}
-use Rattle.sf_verify.specs.Agreement.{Agree, DifferFirst, content_said}
+use Rattle.sf_verify.specs.Agreement.{Agree, DifferFirst, without_key}
 use Rattle.frame_functions.specs.ContentAt.{Answers}
 use Rattle.sf_verify.specs.SectionContent.{by_row}
 
@@ -21,8 +21,8 @@ use Rattle.sf_verify.specs.SectionContent.{by_row}
 pub record DifferWithin (section dwarf : Answers) (from end : ℕ) (d : Difference) : Type 0 where
   pub from_here : from ≤ d.pc
   pub below : d.pc < end
-  pub section_says : content_said (section d.pc) ≡ Some d.section
-  pub dwarf_says : content_said (dwarf d.pc) ≡ d.dwarf
+  pub section_content : without_key (section d.pc) ≡ Some d.section
+  pub dwarf_content : without_key (dwarf d.pc) ≡ d.dwarf
   pub differ : Agree (section d.pc) (dwarf d.pc) → ⊥
   pub before : (pc : ℕ) → from ≤ pc → pc < d.pc → Agree (section pc) (dwarf pc)
 
@@ -32,8 +32,8 @@ Compares section dwarf from end None = (pc : ℕ) → from ≤ pc → pc < end �
 Compares section dwarf from end (Some d) = DifferWithin section dwarf from end d
 
 -- the content of a section's function at each of its addresses
-abbrev pub func_says : Func → Answers
-func_says f pc = option_and_then by_row (row_in pc f)
+abbrev pub function_content : Func → Answers
+function_content f pc = option_and_then by_row (row_in pc f)
 
 -- section and call frame information agree at every address, or this is their first difference
 abbrev pub ComparesAll : (section dwarf : Answers) → Option Difference → Type 0

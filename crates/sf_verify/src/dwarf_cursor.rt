@@ -4,12 +4,12 @@ ghost use Rattle.std.specs.Prelude.{◌≡◌, ◌≤◌, ◌<◌, ◌+◌, ◌^
 ghost use Rattle.sf_model.specs.declared.function.Func.{Func as function};
 ghost use Rattle.sf_model.specs.declared.machine.Arch.{Arch as machine};
 ghost use Rattle.sf_decode.specs.View.{head_of, rows_left};
-ghost use Rattle.sf_express.specs.ContentRanges.{AreRanges, RangesSay, range_of_row};
+ghost use Rattle.sf_express.specs.ContentRanges.{AreRanges, RangesHave, range_of_row};
 ghost use Rattle.frame_functions.specs.ContentAt.{AllFit, Answers, form_content};
 ghost use Rattle.frame_functions.specs.Functions.{Function as lent};
 ghost use Rattle.frame_functions.specs.Descriptions.{described_function};
-ghost use Rattle.sf_verify.specs.Comparing.{func_read, func_says};
-ghost use Rattle.sf_verify.specs.Asking.{AreHolders, Finds, FindsKept, FindsOmitted, IsHeld, IsReady, IsSame, KeptPassed, Knows, OmittedPassed, answers_of, says};
+ghost use Rattle.sf_verify.specs.Comparing.{func_read, function_content};
+ghost use Rattle.sf_verify.specs.Asking.{AreHolders, Finds, FindsKept, FindsOmitted, IsHeld, IsReady, IsSame, KeptPassed, Knows, OmittedPassed, answers_of, contents_of};
 
 use crate::kept::Kept;
 use cfa_machine::Runner;
@@ -155,7 +155,7 @@ fn hold_omitted<'a>(
     ensures size { IfOk result (λ held. held.size ≡ description.now.facts.size) }
     ensures key { IfOk result (λ held. held.key ≡ description.now.facts.key) }
     ensures ranges { IfOk result (λ held. AreRanges description.now.facts.size held.ranges.items) }
-    ensures says { IfOk result (λ held. RangesSay description.now.facts.size held.ranges.items (form_content (described_function description.now))) }
+    ensures says { IfOk result (λ held. RangesHave description.now.facts.size held.ranges.items (form_content (described_function description.now))) }
     ensures fits { IfOk result (λ held. AllFit description.now.arch held.ranges.items) }
 {
     Ok(CurrentFunction {
@@ -219,7 +219,7 @@ impl<'a> DwarfCursor<'a> {
     ) -> DwarfCursor<'a>
         requires { AreHolders arch (answers_of kept omitted.now.functions) kept omitted.now.functions }
         ensures ready { IsReady result 0 }
-        ensures says { says result ≡ answers_of kept.entry omitted.now.functions }
+        ensures says { contents_of result ≡ answers_of kept.entry omitted.now.functions }
         ensures arch { result.arch ≡ arch }
     {
         DwarfCursor {
@@ -247,7 +247,7 @@ impl<'a> DwarfCursor<'a> {
         requires { IsReady self.old head.now.start }
         ensures same { IsSame self.old self.new }
         ensures ready { IsReady self.new head.now.start }
-        ensures kept { IsTrue result → (pc : ℕ) → head.now.start ≤ pc → pc < head.now.start + head.now.size → says self.old pc ≡ func_says (func_read head.now rows.now) pc }
+        ensures kept { IsTrue result → (pc : ℕ) → head.now.start ≤ pc → pc < head.now.start + head.now.size → contents_of self.old pc ≡ function_content (func_read head.now rows.now) pc }
     {
         self.next_kept = pass_kept(&self.kept, self.next_kept, head.start);
         if !has_head(&self.kept, self.next_kept, head) {
@@ -311,7 +311,7 @@ impl<'a> DwarfCursor<'a> {
         requires { IsReady self.old pc }
         ensures same { OnOk result (IsSame self.old self.new) }
         ensures ready { OnOk result (IsReady self.new pc) }
-        ensures known { IfOk result (Knows self.old.arch (says self.old) pc) }
+        ensures known { IfOk result (Knows self.old.arch (contents_of self.old) pc) }
     {
         if !self.find(alloc, pc)? {
             return Ok(None);

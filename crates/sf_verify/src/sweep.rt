@@ -3,9 +3,9 @@
 ghost use Rattle.std.specs.Prelude.{◌≡◌, ◌≤◌, ◌+◌, IfOk, OnOk, IsTrue, Some};
 ghost use Rattle.sf_model.specs.Content.{content_fits};
 ghost use Rattle.sf_verify.specs.Agreement as spec;
-ghost use Rattle.sf_verify.specs.Asking.{IsReady, IsSame, says};
+ghost use Rattle.sf_verify.specs.Asking.{IsReady, IsSame, contents_of};
 ghost use Rattle.sf_merge.specs.Located.{located_functions};
-ghost use Rattle.sf_verify.specs.Comparing.{AreComparable, Compares, ComparesAll, IsComparable, edge_of, func_read, func_says};
+ghost use Rattle.sf_verify.specs.Comparing.{AreComparable, Compares, ComparesAll, IsComparable, edge_of, func_read, function_content};
 ghost use Rattle.sf_verify.specs.SectionContent.{section_at};
 
 use crate::agreement::recover_alike;
@@ -39,7 +39,7 @@ fn compare_run(
     requires fits { IsTrue (content_fits dwarf.old.arch said.content) }
     ensures same { OnOk result (IsSame dwarf.old dwarf.new) }
     ensures ready { OnOk result (IsReady dwarf.new last) }
-    ensures compared { IfOk result (Compares (λ pc. Some said) (says dwarf.old) from (last + 1)) }
+    ensures compared { IfOk result (Compares (λ pc. Some said) (contents_of dwarf.old) from (last + 1)) }
 {
     let mut pc = from;
     loop {
@@ -87,7 +87,7 @@ fn compare_rows(
     requires comparable { IsComparable dwarf.old.arch (func_read head.now rows) }
     ensures same { OnOk result (IsSame dwarf.old dwarf.new) }
     ensures ready { OnOk result (IsReady dwarf.new (head.now.start + head.now.size)) }
-    ensures compared { IfOk result (Compares (func_says (func_read head.now rows.entry)) (says dwarf.old) head.now.start (head.now.start + head.now.size)) }
+    ensures compared { IfOk result (Compares (function_content (func_read head.now rows.entry)) (contents_of dwarf.old) head.now.start (head.now.start + head.now.size)) }
 {
     let mut left = rows;
     let mut next = left.next();
@@ -125,7 +125,7 @@ fn compare_function(
     requires comparable { IsComparable dwarf.old.arch (func_read head.now rows) }
     ensures same { OnOk result (IsSame dwarf.old dwarf.new) }
     ensures ready { OnOk result (IsReady dwarf.new (head.now.start + head.now.size)) }
-    ensures compared { IfOk result (Compares (func_says (func_read head.now rows.entry)) (says dwarf.old) head.now.start (head.now.start + head.now.size)) }
+    ensures compared { IfOk result (Compares (function_content (func_read head.now rows.entry)) (contents_of dwarf.old) head.now.start (head.now.start + head.now.size)) }
 {
     if dwarf.keeps(head, &rows) {
         return Ok(None);
@@ -153,7 +153,7 @@ pub fn compare(
 ) -> Result<Option<Difference>, NoMemory>
     requires ready { IsReady dwarf.old 0 }
     requires comparable { AreComparable dwarf.old.arch functions.now }
-    ensures { IfOk result (ComparesAll (section_at (located_functions functions.now)) (says dwarf.old)) }
+    ensures { IfOk result (ComparesAll (section_at (located_functions functions.now)) (contents_of dwarf.old)) }
 {
     for place in 0..functions.len() {
         let head = functions.head(place);

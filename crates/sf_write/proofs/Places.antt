@@ -9,7 +9,7 @@ use Rattle.byteorder.specs.Numbers.{little_number-reads_back}
 use Rattle.sf_model.specs.Width.{holds_signed}
 use Rattle.sf_model.specs.Section.{number_in}
 use Rattle.sf_model.proofs.RowNumbers.{below_if}
-use Rattle.sf_model.proofs.BytesTold.{not_below}
+use Rattle.sf_model.proofs.BytesDetermined.{not_below}
 use Rattle.sf_write.specs.Number.{word_bytes, signed_word_bytes}
 
 -- what follows a run

@@ -3,7 +3,7 @@ use Rattle.std.proofs.lemmas.Int.{to_z-of_z}
 use Rattle.sf_bytes.specs.Cursor.{cursor}
 use Rattle.cfa_insn.specs.Listing.{listing}
 use Rattle.cfa_machine.proofs.GoodRows.{rows_by-are_rows, answers_are_rows}
-use Rattle.cfa_machine.proofs.Says.{rows_by-say, answers_say}
+use Rattle.cfa_machine.proofs.RowsMatch.{rows_by-say, answers_say}
 use Rattle.cfa_machine.proofs.Faults.{rows_by-fault, answers_fault}
 use Rattle.cfa_machine.proofs.Starts.{answers_start}
 use Rattle.cfa_machine.proofs.list_forms.rows.Goals as goal

@@ -1,5 +1,5 @@
 use Rattle.frame_functions.specs.Descriptions.{described_function}
-use Rattle.frame_functions.proofs.SaidRanges.{are_made}
+use Rattle.frame_functions.proofs.RangesOfInstructions.{are_made}
 use Rattle.frame_functions.proofs.contents.ranges_of.Goals as goal
 
 pub returns-in-Ok-clause-said : goal.returns-in-Ok-clause-said

@@ -1,7 +1,7 @@
 use Rattle.std.proofs.Common.{◌≡◌, ◌+◌, ◌-◌, get_or, None, Some, sym, ◌∙◌, arith}
 use Rattle.sf_express.specs.declared.content_ranges.ContentRange.{ContentRange}
-use Rattle.sf_express.specs.ContentRanges.{said_by}
-use Rattle.sf_express.proofs.Said.{next_after, next_differs, said_at_place}
+use Rattle.sf_express.specs.ContentRanges.{content_by}
+use Rattle.sf_express.proofs.RangesOfRows.{next_after, next_differs, said_at_place}
 use Rattle.sf_express.proofs.content_ranges.range_at.Goals as goal
 use Rattle.sf_express.proofs.content_ranges.range_at.Goals.{then-place-ranges, else-place-ranges}
 
@@ -29,7 +29,7 @@ returns-clause-after c =
           let rise = c.requires.ranges.rise in
           let next = next_after ranges place d rise w.if-place-ranges.true in
           let begins : c.if-place-ranges.end - 1 + 1 ≡ (get_or ranges (place + 1) d).start = omega (arith, w.end-is, next) in
-          let there : said_by (c.if-place-ranges.end - 1 + 1) None ranges ≡ Some (get_or ranges (place + 1) d).content =
+          let there : content_by (c.if-place-ranges.end - 1 + 1) None ranges ≡ Some (get_or ranges (place + 1) d).content =
           said_at_place (c.if-place-ranges.end - 1 + 1) 0 (place + 1) None ranges d rise w.if-place-ranges.true (omega (arith, begins)) (λ more. let later = next_after ranges (place + 1) d rise more in omega (arith, later, begins)) in
           let both : Some (get_or ranges place d).content ≡ Some (get_or ranges (place + 1) d).content = sym same ∙ there in
           let is : (get_or ranges place d).content ≡ (get_or ranges (place + 1) d).content = cc in

@@ -1,5 +1,5 @@
 use Rattle.cfa_machine.proofs.InstructionLoops.{row_follows, none_follows}
-use Rattle.sf_express.proofs.Said.{goes_on, is_done}
+use Rattle.sf_express.proofs.RangesOfRows.{goes_on, is_done}
 use Rattle.sf_express.proofs.content_ranges.ranges_run.Goals as goal
 
 pub loop-ranges-preserved : goal.loop-ranges-preserved

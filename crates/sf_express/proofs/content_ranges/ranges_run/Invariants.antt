@@ -2,7 +2,7 @@ use Rattle.std.proofs.Common.{◌≡◌, None}
 use Rattle.cfa_machine.specs.Left.{rows_left, steps_left}
 use Rattle.sf_express.specs.ContentRanges.{ranges_of}
 use Rattle.sf_express.specs.Run.{on_rows}
-use Rattle.sf_express.proofs.Said.{ranges_and_left}
+use Rattle.sf_express.proofs.RangesOfRows.{ranges_and_left}
 use Rattle.sf_express.proofs.content_ranges.ranges_run.Given as goal
 
 abbrev pub invariant-loop-ranges : goal.invariant-loop-ranges

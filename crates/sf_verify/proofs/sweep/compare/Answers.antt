@@ -4,9 +4,9 @@ use Rattle.sf_model.specs.declared.function.Func.{Func}
 use Rattle.sf_model.specs.declared.function.FuncHead.{FuncHead}
 use Rattle.sf_model.specs.declared.machine.Arch.{Arch}
 use Rattle.sf_verify.specs.Agreement.{is_plain, is_plain_shape}
-use Rattle.sf_verify.specs.Asking.{IsReady, says}
+use Rattle.sf_verify.specs.Asking.{IsReady, contents_of}
 use Rattle.sf_merge.specs.Located.{located_functions}
-use Rattle.sf_verify.specs.Comparing.{Compares, IsComparable, func_read, func_says}
+use Rattle.sf_verify.specs.Comparing.{Compares, IsComparable, func_read, function_content}
 use Rattle.frame_functions.specs.ContentAt.{Answers}
 use Rattle.sf_verify.specs.SectionContent.{section_at}
 use Rattle.sf_verify.proofs.Compared.{later, no_difference, same_again}
@@ -39,9 +39,9 @@ returns-then-is_some c =
     let l = get_or functions place d in
     let is = get_or_default functions place d l lt in
     let read = func_is l.func c.head-head.result c.rows.result (c.head-head.ensures d) (c.rows.ensures d) in
-    let of_func = subst (λ (f : Func). Compares (func_says f) (says c.loop-place.dwarf) f.start (f.start + f.size) c.in_ok-compared.compared) read c.in_ok-compared.ensures.compared in
-    let compared = subst (λ (q : Answers). Compares (func_says l.func) q l.func.start (l.func.start + l.func.size) c.in_ok-compared.compared) c.loop-place.invariant.same.says of_func in
-    differ_found functions (says c.args.dwarf.now) place l c.in_ok-compared.compared (sym c.is_some.ensures ∙ c.if-is_some.true) c.requires.comparable.apart lt is c.loop-place.invariant.agree compared
+    let of_func = subst (λ (f : Func). Compares (function_content f) (contents_of c.loop-place.dwarf) f.start (f.start + f.size) c.in_ok-compared.compared) read c.in_ok-compared.ensures.compared in
+    let compared = subst (λ (q : Answers). Compares (function_content l.func) q l.func.start (l.func.start + l.func.size) c.in_ok-compared.compared) c.loop-place.invariant.same.says of_func in
+    differ_found functions (contents_of c.args.dwarf.now) place l c.in_ok-compared.compared (sym c.is_some.ensures ∙ c.if-is_some.true) c.requires.comparable.apart lt is c.loop-place.invariant.agree compared
 
 pub loop-place-preserved : goal.loop-place-preserved
 loop-place-preserved c =
@@ -58,13 +58,13 @@ loop-place-preserved c =
     elim c.if-is_plain_shape.branch [
       | then-is_plain_shape+in_ok-compared+else-is_some w ↦
           let read = func_is l.func c.head-head.result w.rows.result (c.head-head.ensures d) (w.rows.ensures d) in
-          let of_func = subst (λ (f : Func). Compares (func_says f) (says c.loop-place.dwarf) f.start (f.start + f.size) w.in_ok-compared.compared) read w.in_ok-compared.ensures.compared in
-          let compared = subst (λ (q : Answers). Compares (func_says l.func) q l.func.start (l.func.start + l.func.size) w.in_ok-compared.compared) inv.same.says of_func in
+          let of_func = subst (λ (f : Func). Compares (function_content f) (contents_of c.loop-place.dwarf) f.start (f.start + f.size) w.in_ok-compared.compared) read w.in_ok-compared.ensures.compared in
+          let compared = subst (λ (q : Answers). Compares (function_content l.func) q l.func.start (l.func.start + l.func.size) w.in_ok-compared.compared) inv.same.says of_func in
           let none : w.in_ok-compared.compared ≡ None = no_difference w.in_ok-compared.compared w.is_some.result w.is_some.ensures w.if-is_some.false in
           rw w.dwarf-is (record {
             same = same_again _ _ _ inv.same w.in_ok-compared.ensures.same;
             ready = λ e more. let next = next_start functions place l apart lt is e more in later _ _ _ w.in_ok-compared.ensures.ready (omega (arith, next, start, size));
-            agree = over_more (section_at (located_functions functions)) (says c.args.dwarf.now) functions place l lt is inv.agree (agree_at functions (says c.args.dwarf.now) place l w.in_ok-compared.compared apart lt is none compared);
+            agree = over_more (section_at (located_functions functions)) (contents_of c.args.dwarf.now) functions place l lt is inv.agree (agree_at functions (contents_of c.args.dwarf.now) place l w.in_ok-compared.compared apart lt is none compared);
           })
       | else-is_plain_shape w ↦
           let shape = ap (λ (h : FuncHead). is_plain_shape h.shape) (c.head-head.ensures d) in
@@ -72,9 +72,9 @@ loop-place-preserved c =
           rw w.dwarf-is (record {
             same = inv.same;
             ready = λ e more. let next = next_start functions place l apart lt is e more in later _ _ _ (inv.ready d lt) (omega (arith, next));
-            agree = over_more (section_at (located_functions functions)) (says c.args.dwarf.now) functions place l lt is inv.agree (repeated_over functions (says c.args.dwarf.now) place l apart lt is repeated);
+            agree = over_more (section_at (located_functions functions)) (contents_of c.args.dwarf.now) functions place l lt is inv.agree (repeated_over functions (contents_of c.args.dwarf.now) place l apart lt is repeated);
           })
     ]
 
 pub returns : goal.returns
-returns c = agree_everywhere c.args.functions.now (says c.args.dwarf.now) c.loop-place.place (omega (arith, c.loop-place-test.false, c.len-place-end.ensures)) c.loop-place.invariant.agree
+returns c = agree_everywhere c.args.functions.now (contents_of c.args.dwarf.now) c.loop-place.place (omega (arith, c.loop-place-test.false, c.len-place-end.ensures)) c.loop-place.invariant.agree

@@ -1,7 +1,7 @@
 use Rattle.std.proofs.Common.{◌≡◌, ◌+◌, ℕ, None, drop, length}
 use Rattle.sf_decode.specs.View.{rows_left}
-use Rattle.sf_verify.specs.Asking.{IsReady, IsSame, says}
-use Rattle.sf_verify.specs.Comparing.{Compares, edge_of, func_read, func_says}
+use Rattle.sf_verify.specs.Asking.{IsReady, IsSame, contents_of}
+use Rattle.sf_verify.specs.Comparing.{Compares, edge_of, func_read, function_content}
 use Rattle.sf_verify.proofs.Rowwise.{lead}
 use Rattle.sf_verify.proofs.sweep.compare_rows.Given as goal
 
@@ -13,7 +13,7 @@ invariant-loop-next l = record {
   from : l.from ≡ edge_of l.next l.head.size;
   same : IsSame l.initial.dwarf l.dwarf;
   ready : IsReady l.dwarf (l.head.start + l.from);
-  compared : Compares (func_says (func_read l.head l.rows)) (says l.initial.dwarf) l.head.start (l.head.start + l.from) None;
+  compared : Compares (function_content (func_read l.head l.rows)) (contents_of l.initial.dwarf) l.head.start (l.head.start + l.from) None;
 }
 
 abbrev pub decreases-loop-next : goal.decreases-loop-next

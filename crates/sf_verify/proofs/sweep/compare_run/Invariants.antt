@@ -1,5 +1,5 @@
 use Rattle.std.proofs.Common.{◌≤◌, ◌-◌, None, Some}
-use Rattle.sf_verify.specs.Asking.{IsReady, IsSame, says}
+use Rattle.sf_verify.specs.Asking.{IsReady, IsSame, contents_of}
 use Rattle.sf_verify.specs.Comparing.{Compares}
 use Rattle.sf_verify.proofs.sweep.compare_run.Given as goal
 
@@ -9,7 +9,7 @@ invariant-loop-known l = record {
   to : l.pc ≤ l.last;
   same : IsSame l.initial.dwarf l.dwarf;
   ready : IsReady l.dwarf l.pc;
-  compared : Compares (λ pc. Some l.said) (says l.initial.dwarf) l.from l.pc None;
+  compared : Compares (λ pc. Some l.said) (contents_of l.initial.dwarf) l.from l.pc None;
 }
 
 abbrev pub decreases-loop-known : goal.decreases-loop-known

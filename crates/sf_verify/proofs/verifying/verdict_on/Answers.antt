@@ -4,7 +4,7 @@ use Rattle.sf_model.specs.declared.function.Func.{Func}
 use Rattle.sf_decode.specs.View.{table_of}
 use Rattle.sf_verify.specs.declared.sweep.Difference.{Difference}
 use Rattle.sf_verify.specs.Agreement.{is_plain}
-use Rattle.sf_verify.specs.Asking.{answers_of, kept_in, says}
+use Rattle.sf_verify.specs.Asking.{answers_of, kept_in, contents_of}
 use Rattle.sf_verify.specs.Counting.{is_absent}
 use Rattle.sf_merge.specs.Located.{located_functions}
 use Rattle.sf_verify.specs.Comparing.{ComparesAll}
@@ -22,8 +22,8 @@ pub returns : goal.returns
 returns c =
     let section = section_at (located_functions c.args.ordered.now) in
     let functions = (table_of c.args.view.now).functions in
-    let answers : says c.new-dwarf.result ≡ answers_of (kept_in c.args.gathered.now) c.args.gathered.now.descriptions.functions = c.new-dwarf.ensures.says ∙ ap (λ (ks : List Func). answers_of ks c.args.gathered.now.descriptions.functions) c.new.ensures in
-    let none = subst (λ (d : Option Difference). ComparesAll section (says c.new-dwarf.result) d) c.in_default.is c.in_ok-difference.ensures in
+    let answers : contents_of c.new-dwarf.result ≡ answers_of (kept_in c.args.gathered.now) c.args.gathered.now.descriptions.functions = c.new-dwarf.ensures.says ∙ ap (λ (ks : List Func). answers_of ks c.args.gathered.now.descriptions.functions) c.new.ensures in
+    let none = subst (λ (d : Option Difference). ComparesAll section (contents_of c.new-dwarf.result) d) c.in_default.is c.in_ok-difference.ensures in
     record {
       agree = subst (λ (q : Answers). ComparesAll section q None) answers none;
       checked_are = c.count_plain-checked.ensures;

@@ -5,7 +5,7 @@ use Rattle.sf_model.specs.declared.function.FuncHead.{FuncHead}
 use Rattle.sf_decode.specs.View.{head_of}
 use Rattle.sf_express.specs.ContentRanges.{range_of_row}
 use Rattle.sf_asm.proofs.RowAt.{some_of}
-use Rattle.sf_verify.specs.Asking.{says}
+use Rattle.sf_verify.specs.Asking.{contents_of}
 use Rattle.sf_verify.proofs.HolderContent.{kept_held}
 use Rattle.sf_verify.proofs.dwarf_cursor.DwarfCursor.find_kept.Goals as goal
 
@@ -19,7 +19,7 @@ returns-clause-ready c =
     let head : c.head-head.result ≡ head_of f = c.head-head.ensures e in
     record {
       holders = c.requires.holders;
-      held = kept_held c.args.self.now.arch (says c.args.self.now) kept c.args.self.now.omitted.now.functions place f c.hold_kept.new.held c.requires.holders low (get_or_default kept place e f low)
+      held = kept_held c.args.self.now.arch (contents_of c.args.self.now) kept c.args.self.now.omitted.now.functions place f c.hold_kept.new.held c.requires.holders low (get_or_default kept place e f low)
           (c.in_ok-hold_kept.ensures.start ∙ ap (λ (h : FuncHead). h.start) head)
           (c.in_ok-hold_kept.ensures.size ∙ ap (λ (h : FuncHead). h.size) head)
           (c.in_ok-hold_kept.ensures.key ∙ ap (λ (h : FuncHead). h.key) head)

@@ -1,6 +1,6 @@
 use Rattle.std.proofs.Common.{arith, refl}
 use Rattle.frame_functions.specs.Descriptions.{described_function}
-use Rattle.sf_verify.specs.Asking.{says}
+use Rattle.sf_verify.specs.Asking.{contents_of}
 use Rattle.sf_verify.proofs.HolderContent.{lent_has, omitted_held}
 use Rattle.sf_verify.proofs.dwarf_cursor.DwarfCursor.find_omitted.Goals as goal
 
@@ -17,7 +17,7 @@ returns-clause-ready c =
     let f = described_function c.get-description.result in
     record {
       holders = c.requires.holders;
-      held = omitted_held c.args.self.now.arch (says c.args.self.now) c.args.self.now.kept c.args.self.now.omitted.now.functions c.pass_omitted-self.result f c.in_ok-self.field-0
+      held = omitted_held c.args.self.now.arch (contents_of c.args.self.now) c.args.self.now.kept c.args.self.now.omitted.now.functions c.pass_omitted-self.result f c.in_ok-self.field-0
           c.requires.holders (c.if-not-omitted_starts.ensures.within refl) (c.get-description.ensures f) c.get-description.result.ends
           c.in_ok-self.ensures.start c.in_ok-self.ensures.size c.in_ok-self.ensures.key c.in_ok-self.ensures.ranges c.in_ok-self.ensures.says c.in_ok-self.ensures.fits;
       kept_passed = c.requires.kept_passed;

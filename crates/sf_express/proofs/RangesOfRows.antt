@@ -1,4 +1,4 @@
--- ContentRanges have at each offset the content of the rows.
+-- Ranges have at each offset the content of the rows.
 use Rattle.std.specs.List.{All}
 use Rattle.std.specs.Option.{option_map}
 use Rattle.std.proofs.Common.{◌≡◌, ℕ, zero, suc, ◌+◌, ◌<◌, ◌≤◌, Bool, true, false, cond, List, [], ◌∷◌, ◌++◌, get_or, length, Option, Some, None, Result, Ok, Err, refl, sym, ap, subst, ◌∙◌, arith, inl, inr}
@@ -16,11 +16,11 @@ use Rattle.cfa_machine.specs.Columns.{row_from}
 use Rattle.cfa_machine.specs.Left.{behind_row}
 use Rattle.cfa_machine.specs.RowList.{AreRows, BeginAtZero, RiseFrom}
 use Rattle.sf_express.specs.declared.content_ranges.ContentRange.{ContentRange}
-use Rattle.sf_express.specs.Offsets.{said}
+use Rattle.sf_express.specs.Offsets.{content_or_reason}
 use Rattle.sf_express.specs.Rules.{content_of}
-use Rattle.sf_express.specs.ContentRanges.{AreRanges, AreSaidBy, RangesBegin, RangesDiffer, RangesRise, RangesSay, content_in, range_of, ranges_of, said_by, same_saying, says_again, unless_again}
+use Rattle.sf_express.specs.ContentRanges.{AreRanges, AreRangesOf, RangesBegin, RangesDiffer, RangesRise, RangesHave, content_in, range_of, ranges_of, content_by, same_if_any, is_as_before, unless_again}
 use Rattle.sf_express.specs.Run.{on_rows}
-use Rattle.sf_express.specs.Runs.{AreSaid, Saying}
+use Rattle.sf_express.specs.Runs.{AreContentsOf, ContentsByOffset}
 use Rattle.sf_express.proofs.Changes.{content_itself}
 use Rattle.sf_express.proofs.Same.{content_same}
 
@@ -29,7 +29,7 @@ abbrev pub ranges_and_left : Arch → List ContentRange → Option (Option Conte
 ranges_and_left arch before last left = on_rows (λ rows. before ++ ranges_of arch last rows) left
 
 regroup : (before : List ContentRange) (last : Option (Option Content)) (p : ContentRange) (rest : List ContentRange) → before ++ unless_again last p rest ≡ (before ++ unless_again last p []) ++ rest
-regroup before last p rest = at_test (says_again last p.content)
+regroup before last p rest = at_test (is_as_before last p.content)
   where
     again : (before : List ContentRange) → before ++ rest ≡ (before ++ []) ++ rest
     again before = ap (λ (ps : List ContentRange). ps ++ rest) (sym (append-nil before))
@@ -76,11 +76,11 @@ pub ranges_rise : (arch : Arch) (least : ℕ) (last : Option (Option Content)) (
 unfolding ranges_of
 ranges_rise arch least last [] h = tt
 ranges_rise arch least last (r ∷ rows) h =
-    unless_rises (says_again last (content_in (content_of arch r))) least (range_of arch r) (ranges_of arch (Some (content_in (content_of arch r))) rows) h.0
+    unless_rises (is_as_before last (content_in (content_of arch r))) least (range_of arch r) (ranges_of arch (Some (content_in (content_of arch r))) rows) h.0
     (ranges_rise arch (r.start + 1) (Some (content_in (content_of arch r))) rows h.1)
 
 -- ranges that begin after an offset have nothing there
-said_past : (o least : ℕ) (found : Option (Option Content)) (ranges : List ContentRange) → o < least → RangesRise least ranges → said_by o found ranges ≡ found
+said_past : (o least : ℕ) (found : Option (Option Content)) (ranges : List ContentRange) → o < least → RangesRise least ranges → content_by o found ranges ≡ found
 said_past o least found [] lt h = refl
 said_past o least found (p ∷ ranges) lt h = rw (lt-leb p.start o (omega (arith, lt, h.0))) refl
 
@@ -94,49 +94,49 @@ abbrev saying_of : Arch → Option DwRow → Option (Option Content)
 saying_of arch found = option_map (λ (r : DwRow). content_in (content_of arch r)) found
 
 -- a test that holds is an equation
-same_is : (a b : Option Content) → same_saying a b ≡ true → a ≡ b
+same_is : (a b : Option Content) → same_if_any a b ≡ true → a ≡ b
 same_is None None e = refl
 same_is None (Some c) e = cc
 same_is (Some c) None e = cc
 same_is (Some c) (Some d) e = ap (λ (x : Content). Some x) (content_same c d e)
 
-again_is : (last : Option (Option Content)) (content : Option Content) → says_again last content ≡ true → last ≡ Some content
+again_is : (last : Option (Option Content)) (content : Option Content) → is_as_before last content ≡ true → last ≡ Some content
 again_is None content e = cc
 again_is (Some last) content e = ap (λ (x : Option Content). Some x) (same_is last content e)
 
 pub ranges_said : (arch : Arch) (o least : ℕ) (found : Option DwRow) (last : Option (Option Content)) (rows : List DwRow) → RiseFrom least rows → last ≡ saying_of arch found
-    → said_by o last (ranges_of arch last rows) ≡ saying_of arch (latest_at o found rows)
+    → content_by o last (ranges_of arch last rows) ≡ saying_of arch (latest_at o found rows)
 unfolding ranges_of
 ranges_said arch o least found last [] h e = e
 ranges_said arch o least found last (r ∷ rows) h e = elim (cases_lt o r.start) [
   | inl after ↦
       let past = said_past o r.start last (ranges_of arch last (r ∷ rows)) after
-      (unless_rises (says_again last (content_in (content_of arch r))) r.start (range_of arch r) (ranges_of arch (Some (content_in (content_of arch r))) rows) (omega arith) (ranges_rise arch (r.start + 1) (Some (content_in (content_of arch r))) rows h.1)) in
+      (unless_rises (is_as_before last (content_in (content_of arch r))) r.start (range_of arch r) (ranges_of arch (Some (content_in (content_of arch r))) rows) (omega arith) (ranges_rise arch (r.start + 1) (Some (content_in (content_of arch r))) rows h.1)) in
       let nothing : latest_at o found (r ∷ rows) ≡ found =
       ap (λ (b : Bool). latest_at o (cond b (Some r) found) rows) (lt-leb r.start o after) ∙ row_past o (r.start + 1) found rows (omega (arith, after)) h.1 in
       past ∙ e ∙ sym (ap (saying_of arch) nothing)
   | inr not_after ↦
       let by : r.start ≤ o = omega (arith, not_after) in
       let here : latest_at o found (r ∷ rows) ≡ latest_at o (Some r) rows = ap (λ (b : Bool). latest_at o (cond b (Some r) found) rows) (le-leb r.start o by) in
-      at_test (says_again last (content_in (content_of arch r))) refl by (ranges_said arch o (r.start + 1) (Some r) (Some (content_in (content_of arch r))) rows h.1 refl)
+      at_test (is_as_before last (content_in (content_of arch r))) refl by (ranges_said arch o (r.start + 1) (Some r) (Some (content_in (content_of arch r))) rows h.1 refl)
       ∙ sym (ap (saying_of arch) here)
 ]
   where
     rest : List ContentRange
     rest = ranges_of arch (Some (content_in (content_of arch r))) rows
 
-    at_test : (b : Bool) → says_again last (content_in (content_of arch r)) ≡ b → r.start ≤ o
-        → said_by o (Some (content_in (content_of arch r))) (ranges_of arch (Some (content_in (content_of arch r))) rows) ≡ saying_of arch (latest_at o (Some r) rows)
-        → said_by o last (cond b (ranges_of arch (Some (content_in (content_of arch r))) rows) (range_of arch r ∷ ranges_of arch (Some (content_in (content_of arch r))) rows)) ≡ saying_of arch (latest_at o (Some r) rows)
+    at_test : (b : Bool) → is_as_before last (content_in (content_of arch r)) ≡ b → r.start ≤ o
+        → content_by o (Some (content_in (content_of arch r))) (ranges_of arch (Some (content_in (content_of arch r))) rows) ≡ saying_of arch (latest_at o (Some r) rows)
+        → content_by o last (cond b (ranges_of arch (Some (content_in (content_of arch r))) rows) (range_of arch r ∷ ranges_of arch (Some (content_in (content_of arch r))) rows)) ≡ saying_of arch (latest_at o (Some r) rows)
     at_test true t by later =
-        ap (λ (x : Option (Option Content)). said_by o x (ranges_of arch (Some (content_in (content_of arch r))) rows)) (again_is last (content_in (content_of arch r)) t) ∙ later
+        ap (λ (x : Option (Option Content)). content_by o x (ranges_of arch (Some (content_in (content_of arch r))) rows)) (again_is last (content_in (content_of arch r)) t) ∙ later
     at_test false t by later = rw (le-leb r.start o by) later
 
-saying_said : (arch : Arch) (found : Option DwRow) (says : Result Content Reason) → said arch found ≡ Some says → saying_of arch found ≡ Some (content_in says)
+saying_said : (arch : Arch) (found : Option DwRow) (says : Result Content Reason) → content_or_reason arch found ≡ Some says → saying_of arch found ≡ Some (content_in says)
 saying_said arch None says e = cc
 saying_said arch (Some r) says e = let is : content_of arch r ≡ says = cc in ap (λ (x : Result Content Reason). Some (content_in x)) is
 
-pub ranges_say : (arch : Arch) (size : ℕ) (rows : List DwRow) (says : Saying) → RiseFrom 0 rows → AreSaid arch size rows says → RangesSay size (ranges_of arch None rows) (λ o. content_in (says o))
+pub ranges_say : (arch : Arch) (size : ℕ) (rows : List DwRow) (says : ContentsByOffset) → RiseFrom 0 rows → AreContentsOf arch size rows says → RangesHave size (ranges_of arch None rows) (λ o. content_in (says o))
 ranges_say arch size rows says h are = λ o lt. ranges_said arch o 0 None None rows h refl ∙ saying_said arch (latest_at o None rows) (says o) (are o lt)
 
 -- ---- which ranges they are
@@ -153,7 +153,7 @@ ranges_below : (arch : Arch) (size : ℕ) (last : Option (Option Content)) (rows
 unfolding ranges_of
 ranges_below arch size last [] h = All-nil (λ (p : ContentRange). p.start < size)
 ranges_below arch size last (r ∷ rows) h =
-    unless_below (says_again last (content_in (content_of arch r))) size (range_of arch r) (ranges_of arch (Some (content_in (content_of arch r))) rows)
+    unless_below (is_as_before last (content_in (content_of arch r))) size (range_of arch r) (ranges_of arch (Some (content_in (content_of arch r))) rows)
     (All-head (λ (x : DwRow). x.start < size) r rows h) (ranges_below arch size (Some (content_in (content_of arch r))) rows (All-tail (λ (x : DwRow). x.start < size) r rows h))
 
 pub are_ranges : (arch : Arch) (size : ℕ) (rows : List DwRow) → 0 < size → AreRows arch size rows → AreRanges size (ranges_of arch None rows)
@@ -164,28 +164,28 @@ are_ranges arch size rows some h = record {
 }
 
 -- ---- neighbours differ
-says_itself : (said : Option Content) → same_saying said said ≡ true
+says_itself : (said : Option Content) → same_if_any said said ≡ true
 says_itself None = refl
 says_itself (Some c) = content_itself c
 
-not_again : (last : Option (Option Content)) (content : Option Content) → says_again last content ≡ false → last ≡ Some content → ⊥
+not_again : (last : Option (Option Content)) (content : Option Content) → is_as_before last content ≡ false → last ≡ Some content → ⊥
 not_again None content e is = cc
 not_again (Some last) content e is =
     let one : last ≡ content = cc in
-    let never : true ≡ false = sym (says_itself last) ∙ ap (same_saying last) one ∙ e in
+    let never : true ≡ false = sym (says_itself last) ∙ ap (same_if_any last) one ∙ e in
     cc
 
 pub ranges_differ : (arch : Arch) (last : Option (Option Content)) (rows : List DwRow) → RangesDiffer last (ranges_of arch last rows)
 unfolding ranges_of
 ranges_differ arch last [] = tt
-ranges_differ arch last (r ∷ rows) = at_test (says_again last (content_in (content_of arch r))) refl (ranges_differ arch (Some (content_in (content_of arch r))) rows)
+ranges_differ arch last (r ∷ rows) = at_test (is_as_before last (content_in (content_of arch r))) refl (ranges_differ arch (Some (content_in (content_of arch r))) rows)
   where
-    at_test : (b : Bool) → says_again last (content_in (content_of arch r)) ≡ b → RangesDiffer (Some (content_in (content_of arch r))) (ranges_of arch (Some (content_in (content_of arch r))) rows)
+    at_test : (b : Bool) → is_as_before last (content_in (content_of arch r)) ≡ b → RangesDiffer (Some (content_in (content_of arch r))) (ranges_of arch (Some (content_in (content_of arch r))) rows)
         → RangesDiffer last (cond b (ranges_of arch (Some (content_in (content_of arch r))) rows) (range_of arch r ∷ ranges_of arch (Some (content_in (content_of arch r))) rows))
     at_test true t rest = subst (λ (x : Option (Option Content)). RangesDiffer x (ranges_of arch (Some (content_in (content_of arch r))) rows)) (sym (again_is last (content_in (content_of arch r)) t)) rest
     at_test false t rest = (not_again last (content_in (content_of arch r)) t, rest)
 
-pub are_said_by : (arch : Arch) (size : ℕ) (rows : List DwRow) (says : Saying) → 0 < size → AreRows arch size rows → AreSaid arch size rows says → AreSaidBy size (λ o. content_in (says o)) (ranges_of arch None rows)
+pub are_said_by : (arch : Arch) (size : ℕ) (rows : List DwRow) (says : ContentsByOffset) → 0 < size → AreRows arch size rows → AreContentsOf arch size rows says → AreRangesOf size (λ o. content_in (says o)) (ranges_of arch None rows)
 are_said_by arch size rows says some h said = record {
   are = are_ranges arch size rows some h;
   say = ranges_say arch size rows says h.rise said;
@@ -199,7 +199,7 @@ first_least least (p ∷ ranges) zero d h lt = h.0
 first_least least (p ∷ ranges) (suc i) d h lt = let later = first_least (p.start + 1) ranges i d h.1 (omega (arith, lt)) in omega (arith, later, h.0)
 
 pub said_at_place : (o least i : ℕ) (found : Option (Option Content)) (ranges : List ContentRange) (d : ContentRange) → RangesRise least ranges → i < length ranges → (get_or ranges i d).start ≤ o
-    → (i + 1 < length ranges → o < (get_or ranges (i + 1) d).start) → said_by o found ranges ≡ Some (get_or ranges i d).content
+    → (i + 1 < length ranges → o < (get_or ranges (i + 1) d).start) → content_by o found ranges ≡ Some (get_or ranges i d).content
 said_at_place o least i found [] d h lt by before = absurd (omega (arith, lt))
 said_at_place o least zero found (p ∷ []) d h lt by before = rw (le-leb p.start o by) refl
 said_at_place o least zero found (p ∷ q ∷ ranges) d h lt by before =

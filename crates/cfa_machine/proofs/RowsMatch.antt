@@ -1,4 +1,4 @@
--- At each offset below the size the rows of the one pass say what the full rows say there.
+-- At each offset below the size the rows of the one pass have the columns of the full row there.
 use Rattle.std.specs.Prelude.{nat_lt, nat_le, map}
 use Rattle.std.proofs.Common.{◌≡◌, ℕ, ℤ, ◌+◌, ◌*◌, ◌-◌, ◌^◌, ◌<◌, ◌≤◌, min, Bool, true, false, cond, List, [], ◌∷◌, length, Option, Some, None, Result, Ok, Err, IfOk, Vec, Global, refl, sym, ap, subst, ◌∙◌, arith}
 use Rattle.std.proofs.lemmas.List.Elements.{All-nil}
@@ -18,7 +18,7 @@ use Rattle.cfa_machine.specs.Effects.{effect_by}
 use Rattle.cfa_machine.specs.Pass.{◌>>=◌, State, initial_columns, advanced, row_before, with_recalled, step, last_row, with_ended, rows_from, rows_by, Gives}
 use Rattle.cfa_machine.specs.RowList.{RiseFrom}
 use Rattle.cfa_machine.specs.FullRow.{FullRow, no_row, restored_rule, with_register_rule, row_after, columns_of}
-use Rattle.cfa_machine.specs.RowAtOffset.{UnwindState, recalled, after_instruction, offset_behind, state_before, initial_by, row_at_offset, latest_at, SaysAt, SayAll}
+use Rattle.cfa_machine.specs.RowAtOffset.{UnwindState, recalled, after_instruction, offset_behind, state_before, initial_by, row_at_offset, latest_at, HasColumns, MatchInstructions}
 use Rattle.cfa_machine.proofs.GoodRows.{SignFits, SignsFit, StateFits, GoesOn, IsRest, item_step_goes, rows_from_rest, initial_columns_sign, no_sign}
 use Rattle.cfa_machine.proofs.Agrees.{ChangesTo, change_agrees, restore_agrees, initial_agrees}
 
@@ -77,7 +77,7 @@ step_agrees k initial place Recall s n full init h =
 
 -- ---- the row found at an offset
 abbrev Says : Arch → ℕ → FullRow → Result (List DwRow) MachineFault → Type 0
-Says arch o row (Ok rows) = (found : Option DwRow) → SaysAt arch row (latest_at o found rows)
+Says arch o row (Ok rows) = (found : Option DwRow) → HasColumns arch row (latest_at o found rows)
 Says arch o row (Err e) = Unit {0}
 
 latest_past : (o least : ℕ) (found : Option DwRow) (rows : List DwRow) → o < least → RiseFrom least rows → latest_at o found rows ≡ found
@@ -88,11 +88,11 @@ latest_past o least found (r ∷ rows) lt h =
     let test : nat_le r.start o ≡ false = lt-leb r.start o above in
     rw test (latest_past o (r.start + 1) found rows (omega arith) h.1)
 
-latest_front : (arch : Arch) (o : ℕ) (row : FullRow) (r : Option DwRow) (rows : List DwRow) → ((found : Option DwRow) → SaysAt arch row (latest_at o found rows)) → (found : Option DwRow) → SaysAt arch row (latest_at o found (with_ended r rows))
+latest_front : (arch : Arch) (o : ℕ) (row : FullRow) (r : Option DwRow) (rows : List DwRow) → ((found : Option DwRow) → HasColumns arch row (latest_at o found rows)) → (found : Option DwRow) → HasColumns arch row (latest_at o found (with_ended r rows))
 latest_front arch o row None rows h found = h found
 latest_front arch o row (Some r) rows h found = h (cond (nat_le r.start o) (Some r) found)
 
-found_here : (arch : Arch) (o offset next : ℕ) (c : Columns) (full : FullRow) (row : Option DwRow) (rows : List DwRow) (found : Option DwRow) → c ≡ columns_of arch full → row ≡ Some (row_from offset c) → offset ≤ o → o < next → RiseFrom next rows → SaysAt arch full (latest_at o found (with_ended row rows))
+found_here : (arch : Arch) (o offset next : ℕ) (c : Columns) (full : FullRow) (row : Option DwRow) (rows : List DwRow) (found : Option DwRow) → c ≡ columns_of arch full → row ≡ Some (row_from offset c) → offset ≤ o → o < next → RiseFrom next rows → HasColumns arch full (latest_at o found (with_ended row rows))
 found_here arch o offset next c full row rows found e row_is le lt rise =
     let front : latest_at o found (with_ended row rows) ≡ latest_at o found (row_from offset c ∷ rows) = ap (λ (x : Option DwRow). latest_at o found (with_ended x rows)) row_is in
     let taken : latest_at o found (row_from offset c ∷ rows) ≡ latest_at o (Some (row_from offset c)) rows = ap (λ (b : Bool). latest_at o (cond b (Some (row_from offset c)) found) rows) (le-leb offset o le) in
@@ -148,16 +148,16 @@ pub no_columns_there : (arch : Arch) → columns_of arch no_row ≡ no_columns
 no_columns_there Amd64 = refl
 no_columns_there Aarch64 = refl
 
-abbrev pub SaysAllIfOk : Arch → (code : ℕ) (f : ℤ) (size : ℕ) (cie fde : List Item) → Result (List DwRow) MachineFault → Type 0
-SaysAllIfOk arch code f size cie fde (Ok rows) = SayAll arch code f size cie fde rows
-SaysAllIfOk arch code f size cie fde (Err e) = Unit {0}
+abbrev pub MatchIfOk : Arch → (code : ℕ) (f : ℤ) (size : ℕ) (cie fde : List Item) → Result (List DwRow) MachineFault → Type 0
+MatchIfOk arch code f size cie fde (Ok rows) = MatchInstructions arch code f size cie fde rows
+MatchIfOk arch code f size cie fde (Err e) = Unit {0}
 
-all_say : (arch : Arch) (code : ℕ) (f : ℤ) (size : ℕ) (cie fde : List Item) (given : Result (List DwRow) MachineFault) → ((o : ℕ) → o < size → Says arch o (row_at_offset code f cie fde o) given) → SaysAllIfOk arch code f size cie fde given
+all_say : (arch : Arch) (code : ℕ) (f : ℤ) (size : ℕ) (cie fde : List Item) (given : Result (List DwRow) MachineFault) → ((o : ℕ) → o < size → Says arch o (row_at_offset code f cie fde o) given) → MatchIfOk arch code f size cie fde given
 all_say arch code f size cie fde (Ok rows) h = λ o lt. h o lt None
 all_say arch code f size cie fde (Err e) h = tt
 
 rows_from-say : (arch : Arch) (code : ℕ) (f : ℤ) (size : ℕ) (initial : Columns) (cie fde : List Item) → size < 2 ^ 64 → Ok initial ≡ initial_columns arch f no_columns cie
-    → SaysAllIfOk arch code f size cie fde (rows_from (record { arch = arch; code_alignment_factor = code; size = size; initial = initial }) f (record { columns = initial; remembered = []; offset = 0 }) fde)
+    → MatchIfOk arch code f size cie fde (rows_from (record { arch = arch; code_alignment_factor = code; size = size; initial = initial }) f (record { columns = initial; remembered = []; offset = 0 }) fde)
 rows_from-say arch code f size initial cie fde small e =
     let k : FunctionContext = record { arch = arch; code_alignment_factor = code; size = size; initial = initial } in
     let s : State = record { columns = initial; remembered = []; offset = 0 } in
@@ -167,14 +167,14 @@ rows_from-say arch code f size initial cie fde small e =
     let init : initial ≡ columns_of arch row = subst (λ (d : Result Columns MachineFault). ChangesTo arch d row) (sym e) from_none in
     all_say arch code f size cie fde (rows_from k f s fde) (λ o lt. rows_say k row f o s 0 (record { row = row; remembered = [] }) fde init (record { columns = init; remembered = refl; offset = refl }) (record { sign = sign; remembered = All-nil (SignFits arch); capped = omega arith }) (omega arith) lt small)
 
-then_say : (arch : Arch) (code : ℕ) (f : ℤ) (size : ℕ) (cie fde : List Item) (initial : Result Columns MachineFault) (next : Columns → Result (List DwRow) MachineFault) → ((c : Columns) → initial ≡ Ok c → SaysAllIfOk arch code f size cie fde (next c)) → SaysAllIfOk arch code f size cie fde (initial >>= next)
+then_say : (arch : Arch) (code : ℕ) (f : ℤ) (size : ℕ) (cie fde : List Item) (initial : Result Columns MachineFault) (next : Columns → Result (List DwRow) MachineFault) → ((c : Columns) → initial ≡ Ok c → MatchIfOk arch code f size cie fde (next c)) → MatchIfOk arch code f size cie fde (initial >>= next)
 then_say arch code f size cie fde (Ok c) next go = go c refl
 then_say arch code f size cie fde (Err e) next go = tt
 
-pub rows_by-say : (arch : Arch) (code : ℕ) (f : ℤ) (size : ℕ) (cie fde : List Item) → size < 2 ^ 64 → SaysAllIfOk arch code f size cie fde (rows_by arch code f size cie fde)
+pub rows_by-say : (arch : Arch) (code : ℕ) (f : ℤ) (size : ℕ) (cie fde : List Item) → size < 2 ^ 64 → MatchIfOk arch code f size cie fde (rows_by arch code f size cie fde)
 rows_by-say arch code f size cie fde small = then_say arch code f size cie fde (initial_columns arch f no_columns cie) _ (λ initial e. rows_from-say arch code f size initial cie fde small (sym e))
 
-pub answers_say : (arch : Arch) (code : ℕ) (f : ℤ) (size : ℕ) (cie fde : List Item) (answer : Result (Vec DwRow Global) MachineFault) (given : Result (List DwRow) MachineFault) → Gives (λ (v : Vec DwRow Global). v.items) answer given → SaysAllIfOk arch code f size cie fde given
-    → IfOk answer (λ v. SayAll arch code f size cie fde v.items)
-answers_say arch code f size cie fde (Ok v) given e h = subst (SaysAllIfOk arch code f size cie fde) e h
+pub answers_say : (arch : Arch) (code : ℕ) (f : ℤ) (size : ℕ) (cie fde : List Item) (answer : Result (Vec DwRow Global) MachineFault) (given : Result (List DwRow) MachineFault) → Gives (λ (v : Vec DwRow Global). v.items) answer given → MatchIfOk arch code f size cie fde given
+    → IfOk answer (λ v. MatchInstructions arch code f size cie fde v.items)
+answers_say arch code f size cie fde (Ok v) given e h = subst (MatchIfOk arch code f size cie fde) e h
 answers_say arch code f size cie fde (Err e) given g h = tt
