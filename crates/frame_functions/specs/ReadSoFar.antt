@@ -1,6 +1,7 @@
 -- The functions that were read so far: within the limits they are held, and past one they are only counted.
-use Rattle.std.specs.Prelude.{◌≡◌, ◌⊎◌, ◌≤◌, ◌+◌, ◌^◌, ℕ, Bool, false, IsTrue, is_none, List, ◌++◌, map, length, min, sum_by, All, Result, Ok, Err}
+use Rattle.std.specs.Prelude.{◌≡◌, ◌⊎◌, ◌≤◌, ◌+◌, ℕ, Bool, false, IsTrue, is_none, List, ◌++◌, map, length, min, sum_by, All, Result, Ok, Err}
 use Rattle.sf_model.specs.declared.machine.Arch.{Arch}
+use Rattle.sf_model.specs.Limits.{most_functions, most_rows}
 use Rattle.frame_functions.specs.declared.fault.AsmFault.{AsmFault}
 use Rattle.frame_functions.specs.declared.fault.AsmFault.TheVariants as asm
 use Rattle.frame_functions.specs.declared.read.HeldFunctions.{HeldFunctions}
@@ -16,13 +17,13 @@ use Rattle.frame_functions.specs.declared.numbers.CommonNumbers.{CommonNumbers}
 -- within the limits: all functions, the number of rows that may still come, and the omitted ones if they are to be lent
 pub record AreHeld (lending : Bool) (held : HeldFunctions) (functions : List Function) : Type 0 where
   pub entries : held.entries ≡ map read_of functions
-  pub few : length functions ≤ 2 ^ 21
-  pub rows : sum_by read_rows (map read_of functions) + held.rows_left ≡ 2 ^ 24
+  pub few : length functions ≤ most_functions
+  pub rows : sum_by read_rows (map read_of functions) + held.rows_left ≡ most_rows
   pub lent : IsTrue lending → held.descriptions.functions ≡ omitted_functions functions
 
 -- past a limit: how many there are; a number above the limit of functions counts as one above it
 pub record AreCounted (count : ℕ) (functions : List Function) : Type 0 where
-  pub counted : count ≡ min (length functions) (2 ^ 21 + 1)
+  pub counted : count ≡ min (length functions) (most_functions + 1)
   pub past : is_none (exceeded_by (map read_of functions)) ≡ false
 
 -- these are the functions that were read so far

@@ -1,6 +1,7 @@
 //! The functions that were read of inputs, within the limits of a run.
 
-ghost use Rattle.std.specs.Prelude.{◌≡◌, ◌≤◌, ◌<◌, ◌+◌, ◌^◌, ◌&&◌, ◌++◌, [], ◌∷◌, List, Bool, IfOk, IfErr, OnOk, length, map, min, nat_le, nat_lt, Some};
+ghost use Rattle.std.specs.Prelude.{◌≡◌, ◌≤◌, ◌<◌, ◌+◌, ◌&&◌, ◌++◌, [], ◌∷◌, List, Bool, IfOk, IfErr, OnOk, length, map, min, nat_le, nat_lt, Some};
+ghost use Rattle.sf_model.specs.Limits.{most_functions};
 ghost use Rattle.frame_functions.specs.declared.read.ReadFunctions.TheVariants.{Within, Past};
 ghost use Rattle.frame_functions.specs.ReadFunction.{IsSound};
 ghost use Rattle.frame_functions.specs.Functions.{Function};
@@ -11,8 +12,8 @@ ghost use Rattle.frame_functions.specs.ReadSoFar.{AreReadSoFar, counted_in};
 use crate::descriptions::Descriptions;
 use crate::function_list::FunctionList;
 use crate::read_function::ReadFunction;
-use sf_functions::{Limit, MOST_FUNCTIONS, MOST_ROWS};
-use sf_model::Arch;
+use sf_functions::Limit;
+use sf_model::{Arch, MOST_FUNCTIONS, MOST_ROWS};
 use sf_write::PackedRows;
 use std::alloc::{AllocError, Global};
 
@@ -41,7 +42,7 @@ impl<'a> HeldFunctions<'a> {
     /// Returns whether the limits allow one function more, with its rows.
     #[inline(always)]
     pub fn has_room(&self, entry: &ReadFunction) -> bool
-        ensures { result ≡ (nat_lt (length self.now.entries) (2 ^ 21) && nat_le (read_rows entry.now) self.now.rows_left) }
+        ensures { result ≡ (nat_lt (length self.now.entries) most_functions && nat_le (read_rows entry.now) self.now.rows_left) }
     {
         self.entries.len() < MOST_FUNCTIONS && entry.row_count() <= self.rows_left
     }
@@ -91,7 +92,7 @@ impl<'a> ReadFunctions<'a> {
 
     /// Counts one function more, which there is no room for. Those that were held are dropped.
     pub fn count(&mut self)
-        ensures { self.new ≡ Past (min (counted_in self.old) (2 ^ 21) + 1) }
+        ensures { self.new ≡ Past (min (counted_in self.old) most_functions + 1) }
     {
         *self = ReadFunctions::Past(self.counted().min(MOST_FUNCTIONS) + 1);
     }

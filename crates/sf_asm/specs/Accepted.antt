@@ -1,8 +1,9 @@
 -- Which inputs can be gathered: all their functions can be read and run, they are of one machine and within the limits, and no address
 -- lies in two of them. And which can be linked: each kept function is near enough to the section too.
-use Rattle.std.specs.Prelude.{◌≡◌, ◌≤◌, ◌+◌, ◌^◌, ◌&&◌, ℕ, Bool, nat_le, nat_lt, List, map, length, sum_by, Option, None, Ok, if◌then◌else◌}
+use Rattle.std.specs.Prelude.{◌≡◌, ◌≤◌, ◌+◌, ◌&&◌, ℕ, Bool, nat_le, nat_lt, List, map, length, sum_by, Option, None, Ok, if◌then◌else◌}
 use Rattle.sf_model.specs.declared.machine.Arch.{Arch}
 use Rattle.sf_model.specs.declared.omission.Span.{Span}
+use Rattle.sf_model.specs.Limits.{most_functions, most_rows}
 use Rattle.sf_write.specs.Reach.{first_out_of_reach}
 use Rattle.sf_asm.specs.Described.{Describe}
 use Rattle.frame_functions.specs.declared.read_function.ReadFunction.{ReadFunction}
@@ -30,8 +31,8 @@ pub record CanBeGathered (before : Option Arch) (objects : List Object) : Type 0
   pub arch : Arch
   pub machine : HaveMachine before objects arch
   -- functions, omitted ones included, and rows of kept ones
-  pub few : length functions ≤ 2 ^ 21
-  pub few_rows : sum_by read_rows (map read_of functions) ≤ 2 ^ 24
+  pub few : length functions ≤ most_functions
+  pub few_rows : sum_by read_rows (map read_of functions) ≤ most_rows
   -- each address lies in one of them at most
   pub apart : (address : ℕ) → how_many_at address (map read_of functions) ≤ 1
 

@@ -1,6 +1,7 @@
 -- GNU SFrame specification, Version 2, preamble and header: what is checked of them.
-use Rattle.std.specs.Prelude.{ℕ, ◌+◌, ◌*◌, ◌^◌, ◌==◌, Bool, ◌||◌, List, length, slice_index, nat_le, nat_lt}
+use Rattle.std.specs.Prelude.{ℕ, ◌+◌, ◌*◌, ◌==◌, Bool, ◌||◌, List, length, slice_index, nat_le, nat_lt}
 use Rattle.sf_model.specs.Section.{number_in, header_end, functions_place, rows_place, rows_len, fixed_return_byte}
+use Rattle.sf_model.specs.Limits.{most_functions, most_rows}
 use Rattle.sf_decode.specs.declared.fault.DecodeFault.TheVariants.{Short, Magic, Version, Flags, Abi, FixedOffset, Layout, TooManyFunctions, TooManyRows}
 use Rattle.sf_decode.specs.Checking.{Check, unless, ◌>>◌}
 use Rattle.sf_decode.specs.Entry.{arch_in}
@@ -36,8 +37,8 @@ machine_check bytes =
 -- the check that the counts are within the limits, and that both sub-sections lie in the bytes
 unfoldable pub layout_check : List ℕ → Check
 layout_check bytes =
-    unless (nat_le (function_count_in bytes) (2 ^ 21)) (TooManyFunctions 8)
-    >> unless (nat_le (row_count_in bytes) (2 ^ 24)) (TooManyRows 12)
+    unless (nat_le (function_count_in bytes) most_functions) (TooManyFunctions 8)
+    >> unless (nat_le (row_count_in bytes) most_rows) (TooManyRows 12)
     >> unless (nat_le (functions_place bytes + 20 * function_count_in bytes) (length bytes)) (Layout 20)
     >> unless (nat_le (rows_place bytes + rows_len bytes) (length bytes)) (Layout 24)
 

@@ -10,11 +10,11 @@ use crate::fault::DecodeFault;
 use crate::layout::{
     ABI_AARCH64, ABI_AMD64, ABI_PLACE, AUXILIARY_LEN_PLACE, FIXED_FRAME_POINTER_PLACE,
     FIXED_RETURN_AMD64, FIXED_RETURN_PLACE, FLAGS_END, FLAGS_PLACE, FUNCTION_COUNT_PLACE,
-    FUNCTION_ENTRY_LEN, FUNCTIONS_OFFSET_PLACE, HEADER_LEN, MAGIC, MAGIC_PLACE, MOST_FUNCTIONS,
-    MOST_ROWS, ROW_COUNT_PLACE, ROWS_LEN_PLACE, ROWS_OFFSET_PLACE, VERSION, VERSION_PLACE,
+    FUNCTION_ENTRY_LEN, FUNCTIONS_OFFSET_PLACE, HEADER_LEN, MAGIC, MAGIC_PLACE, ROW_COUNT_PLACE,
+    ROWS_LEN_PLACE, ROWS_OFFSET_PLACE, VERSION, VERSION_PLACE,
 };
 use crate::number::{byte_at, bytes_at, u16_at, u32_at};
-use sf_model::Arch;
+use sf_model::{Arch, MOST_FUNCTIONS, MOST_ROWS};
 
 /// Returns the preamble's flags.
 #[inline(always)]
@@ -160,11 +160,11 @@ fn check_layout(bytes: &[u8]) -> Result<(), DecodeFault>
     let len = bytes.len() as u64;
     let count = function_count(bytes);
     require(
-        count <= MOST_FUNCTIONS,
+        count as usize <= MOST_FUNCTIONS,
         DecodeFault::TooManyFunctions(FUNCTION_COUNT_PLACE),
     )?;
     require(
-        row_count(bytes) <= MOST_ROWS,
+        row_count(bytes) as usize <= MOST_ROWS,
         DecodeFault::TooManyRows(ROW_COUNT_PLACE),
     )?;
     require(

@@ -56,12 +56,6 @@ pub const FUNCTIONS_OFFSET_PLACE: u64 = 20;
 /// The place of `sfh_freoff`, the offset of the rows.
 pub const ROWS_OFFSET_PLACE: u64 = 24;
 
-/// The most functions that are read.
-pub const MOST_FUNCTIONS: u32 = 1 << 21;
-
-/// The most rows that are read.
-pub const MOST_ROWS: u32 = 1 << 24;
-
 /// The length of a function descriptor entry in bytes.
 pub const FUNCTION_ENTRY_LEN: u64 = 20;
 

@@ -1,11 +1,11 @@
--- The limits of functions and rows: of one section (GNU SFrame specification, Version 2, the header's numbers of function
--- descriptor entries and frame row entries), and of all inputs of one run together.
-use Rattle.std.specs.Prelude.{◌^◌, ℕ, nat_lt, Option, Some, None, if◌then◌else◌}
+-- Which limit is exceeded, of functions and rows.
+use Rattle.std.specs.Prelude.{ℕ, nat_lt, Option, Some, None, if◌then◌else◌}
+use Rattle.sf_model.specs.Limits.{most_functions, most_rows}
 use Rattle.sf_functions.specs.declared.limits.Limit.{Limit}
 use Rattle.sf_functions.specs.declared.limits.Limit.TheVariants.{Functions, Rows}
 
--- the limit that these numbers exceed: 2^21 functions, or else 2^24 rows
+-- the limit that these numbers exceed: that of functions, or else that of rows
 abbrev pub exceeded : (functions rows : ℕ) → Option Limit
 exceeded functions rows =
-    if nat_lt (2 ^ 21) functions then Some Functions else
-    if nat_lt (2 ^ 24) rows then Some Rows else None
+    if nat_lt most_functions functions then Some Functions else
+    if nat_lt most_rows rows then Some Rows else None

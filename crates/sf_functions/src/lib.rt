@@ -18,7 +18,7 @@ mod order;
 mod with_rows;
 
 pub use counts::count_rows;
-pub use limits::{Limit, MOST_FUNCTIONS, MOST_ROWS, exceeded};
+pub use limits::{Limit, exceeded};
 pub use neighbours::{HasSize, first_overlap, shares_address};
 pub use order::{HasStart, sort_by_start};
 pub use with_rows::{FunctionsWithRows, MayHaveRows};

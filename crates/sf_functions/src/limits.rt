@@ -3,11 +3,7 @@
 ghost use Rattle.std.specs.Prelude.{◌≡◌};
 ghost use Rattle.sf_functions.specs.Limits as spec;
 
-/// The most functions of one section, and of all inputs of one run, omitted ones included.
-pub const MOST_FUNCTIONS: usize = 1 << 21;
-
-/// The most rows of one section, and of all inputs of one run.
-pub const MOST_ROWS: usize = 1 << 24;
+use sf_model::{MOST_FUNCTIONS, MOST_ROWS};
 
 /// A limit.
 #[derive(Clone, Copy)]

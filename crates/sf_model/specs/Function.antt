@@ -10,6 +10,7 @@ use Rattle.sf_model.specs.declared.function.Shape.{Shape}
 use Rattle.sf_model.specs.declared.function.Shape.TheVariants.{Plain, Repeat}
 use Rattle.sf_model.specs.declared.function.Func.{Func}
 use Rattle.sf_model.specs.Content.{content_fits}
+use Rattle.sf_model.specs.Limits.{most_functions, most_rows}
 
 -- on AMD64 every key is A
 abbrev pub key_fits : Arch → Key → Bool
@@ -36,10 +37,10 @@ pub record IsWritable (arch : Arch) (f : Func) : Type 0 where
   pub key : IsTrue (key_fits arch f.key)
   pub shape : IsTrue (shape_fits f.shape)
 
--- functions that one section can hold in this order: each ends at the start of the next or before it, and there are at
--- most 2^21 of them with at most 2^24 rows together
+-- functions that one section can hold in this order: each ends at the start of the next or before it, and neither they nor
+-- their rows exceed the limit
 pub record AreWritable (arch : Arch) (functions : List Func) : Type 0 where
   pub each : All (IsWritable arch) functions
   pub apart : AllAdjacentBelow (λ (f : Func) (g : Func). f.start + f.size ≤ g.start) functions (length functions)
-  pub count : length functions ≤ 2 ^ 21
-  pub row_count : sum_by (λ (f : Func). length f.rows) functions ≤ 2 ^ 24
+  pub count : length functions ≤ most_functions
+  pub row_count : sum_by (λ (f : Func). length f.rows) functions ≤ most_rows

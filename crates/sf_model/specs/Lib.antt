@@ -2,6 +2,7 @@ pub mod Answers
 pub mod Firsts
 pub mod Checking
 pub mod Content
+pub mod Limits
 pub mod Function
 pub mod Memory
 pub mod Recovery

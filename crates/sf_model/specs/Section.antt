@@ -14,6 +14,7 @@ use Rattle.sf_model.specs.declared.function.Shape.TheVariants.{Plain, Repeat}
 use Rattle.sf_model.specs.declared.function.Func.{Func}
 use Rattle.sf_model.specs.Content.{content_fits}
 use Rattle.sf_model.specs.Function.{key_fits, RowsRise}
+use Rattle.sf_model.specs.Limits.{most_functions, most_rows}
 use Rattle.sf_model.specs.Width.{holds_unsigned, IsWidth}
 use Rattle.sf_model.specs.RowBytes.{holds_row_offsets, spelled_row, StandsAt}
 use Rattle.sf_model.specs.Table.{Table, row_count}
@@ -79,9 +80,9 @@ pub record IsHeader (bytes : List ℕ) (table : Table) : Type 0 where
   pub fixed_frame_pointer : slice_index bytes 5 ≡ 0
   pub fixed_return : slice_index bytes 6 ≡ fixed_return_byte table.arch
   pub function_count : number_in 4 8 bytes ≡ length table.functions
-  pub function_limit : length table.functions ≤ 2 ^ 21
+  pub function_limit : length table.functions ≤ most_functions
   pub rows : number_in 4 12 bytes ≡ row_count table.functions
-  pub row_limit : row_count table.functions ≤ 2 ^ 24
+  pub row_limit : row_count table.functions ≤ most_rows
   pub header_within : header_end bytes ≤ length bytes
   pub functions_within : functions_place bytes + 20 * length table.functions ≤ length bytes
   pub rows_within : rows_place bytes + rows_len bytes ≤ length bytes

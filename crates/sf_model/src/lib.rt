@@ -18,6 +18,7 @@ mod facts;
 mod form;
 mod function;
 mod laws;
+mod limits;
 mod machine;
 mod memory;
 mod notice;
@@ -34,6 +35,7 @@ pub use function::{Func, FuncHead, Shape};
 pub use laws::{
     equal_recoveries_mean_equal_contents, section_has_one_table, tight_section_is_the_only_one,
 };
+pub use limits::{MOST_FUNCTIONS, MOST_ROWS};
 pub use machine::{Arch, Base, Key};
 pub use memory::Memory;
 pub use notice::{Group, Notice};
