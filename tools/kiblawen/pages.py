@@ -15,6 +15,7 @@ a name is not explained, if a link leads nowhere, or if nothing was run. docs/te
 """
 
 import collections
+import glob
 import os
 import re
 import subprocess
@@ -174,16 +175,23 @@ def unexplained():
     group's section."""
     reasons, messages = sections("omissions.md"), sections("messages.md")
     with open(common.at_top("crates", "sf_text", "src", "names.rt"), encoding="utf-8") as file:
-        functions = file.read().split("fn name_of_")[1:]
-    for kind, name in ((function.partition("(")[0], name) for function in functions for name in re.findall(r'=> "(\w+)"', function)):
-        if kind == "reason":
-            explained = name in reasons
-        elif kind == "group":
-            explained = f"Group {name}" in messages
-        else:
-            explained = re.search(rf"\b{name}\b", messages.get(f"Group {kind}", ""))
-        if not explained:
-            yield f"{kind} {name}"
+        of_reasons, of_groups = (re.findall(r'=> "(\w+)"', function) for function in file.read().split("fn name_of_")[1:])
+    yield from (f"reason {name}" for name in of_reasons if name not in reasons)
+    yield from (f"group {name}" for name in of_groups if f"Group {name}" not in messages)
+    faults = named_faults()
+    yield from (f"group {group} without a fault" for group in of_groups if group not in {it for it, _ in faults})
+    for group, name in faults:
+        if not re.search(rf"\b{name}\b", messages.get(f"Group {group}", "")):
+            yield f"{group} {name}"
+
+
+def named_faults():
+    """The group and the name of each fault that a line can print, from the definitions. The line of a limit has no name of a fault."""
+    found = set()
+    for path in sorted(glob.glob(common.at_top("crates", "*", "specs", "FaultShown.antt"))):
+        with open(path, encoding="utf-8") as file:
+            found.update(re.findall(r'group\.(\w+) \d+ \(codes "(\w+)"\)', file.read()))
+    return sorted((group.lower(), name) for group, name in found if not name.startswith("TooMany"))
 
 
 def anchors(path):

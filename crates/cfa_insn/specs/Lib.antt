@@ -5,3 +5,4 @@ pub mod Listing
 pub mod Frequent
 pub mod Remaining
 pub mod Spelling
+pub mod FaultShown

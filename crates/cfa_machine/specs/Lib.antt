@@ -11,3 +11,4 @@ pub mod Fault
 pub mod FirstFault
 pub mod Recovery
 pub mod ColumnRecovery
+pub mod FaultShown

@@ -4,6 +4,7 @@ ghost use Rattle.std.specs.Prelude.{◌≡◌};
 ghost use Rattle.cfa_machine.specs.declared.fault.MachineFault.TheVariants.{NoMemory, Insn};
 
 use cfa_insn::InsnFault;
+use sf_model::{FaultName, FaultValues, Group, Shown, fault_values};
 use std::alloc::{AllocError, AllocFailed};
 
 /// The first instruction that can't be read or run, by the place of its opcode byte.
@@ -21,6 +22,39 @@ pub enum MachineFault {
     Insn(InsnFault),
     /// Memory ran out.
     NoMemory,
+}
+
+impl Shown for MachineFault {
+    ghost use Rattle.cfa_machine.specs.FaultShown.{shown_machine};
+
+    ghost shown = { shown_machine };
+
+    fn name(&self) -> FaultName {
+        let (number, name) = match self {
+            MachineFault::CieInstruction(_) => (1, "CieInstruction"),
+            MachineFault::StateEmpty(_) => (2, "StateEmpty"),
+            MachineFault::StateDepth(_) => (3, "StateDepth"),
+            MachineFault::NoCfaRegister(_) => (4, "NoCfaRegister"),
+            MachineFault::Insn(fault) => return fault.name(),
+            MachineFault::NoMemory => (0, ""),
+        };
+        FaultName {
+            group: Group::Machine,
+            number,
+            name,
+        }
+    }
+
+    fn values(&self) -> FaultValues {
+        match self {
+            MachineFault::CieInstruction(place)
+            | MachineFault::StateEmpty(place)
+            | MachineFault::StateDepth(place)
+            | MachineFault::NoCfaRegister(place) => fault_values(&[*place]),
+            MachineFault::Insn(fault) => fault.values(),
+            MachineFault::NoMemory => FaultValues::new(),
+        }
+    }
 }
 
 impl From<AllocError> for MachineFault {

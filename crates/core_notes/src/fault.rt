@@ -1,6 +1,7 @@
 //! Why a core file is refused.
 
 use elf_read::ElfFault;
+use sf_model::{FaultName, FaultValues, Group, Shown, fault_values};
 
 /// A refused core file, with the place of what is wrong, in bytes from the file's start.
 #[derive(Clone, Copy, PartialEq, Eq)]
@@ -17,6 +18,37 @@ pub enum CoreFault {
     NoThread,
     /// There are more than 4096 threads.
     TooManyThreads,
+}
+
+impl Shown for CoreFault {
+    ghost use Rattle.core_notes.specs.FaultShown.{shown_core};
+
+    ghost shown = { shown_core };
+
+    fn name(&self) -> FaultName {
+        let (number, name) = match self {
+            CoreFault::Elf(fault) => return fault.name(),
+            CoreFault::NotCore => (2, "NotCore"),
+            CoreFault::Note(_) => (3, "Note"),
+            CoreFault::StatusSize(_) => (4, "StatusSize"),
+            CoreFault::NoThread => (5, "NoThread"),
+            CoreFault::TooManyThreads => (6, "TooManyThreads"),
+        };
+        FaultName {
+            group: Group::Core,
+            number,
+            name,
+        }
+    }
+
+    fn values(&self) -> FaultValues {
+        match self {
+            CoreFault::Elf(fault) => fault.values(),
+            CoreFault::Note(place) | CoreFault::StatusSize(place) => fault_values(&[*place]),
+            CoreFault::NotCore | CoreFault::NoThread | CoreFault::TooManyThreads =>
+                FaultValues::new(),
+        }
+    }
 }
 
 impl From<ElfFault> for CoreFault {

@@ -1,4 +1,4 @@
-//! Faults as numbers, for the line that shows them.
+//! A refused core file as its line shows it.
 
 ghost use Rattle.std.specs.Prelude.{◌≡◌, IsSome, IsTrue};
 ghost use Rattle.sf_model.specs.Notice.{HasLine};
@@ -6,7 +6,7 @@ ghost use Rattle.sf_model.specs.FaultShown.{shown_by};
 ghost use Rattle.core_notes.specs.FaultShown.{is_core_refusal, shown_of_core};
 
 use crate::fault::CoreFault;
-use sf_model::{Group, Notice};
+use sf_model::Notice;
 
 impl CoreFault {
     /// Returns the fault of this item's file, as its line shows it. The caller owes that it is no limit.
@@ -15,13 +15,6 @@ impl CoreFault {
         ensures shown { shown_by result ≡ shown_of_core item self.now }
         ensures line { IsSome item → HasLine result }
     {
-        match *self {
-            CoreFault::Elf(fault) => fault.notice(item),
-            CoreFault::NotCore => Notice::new(item, Group::Core, 2),
-            CoreFault::Note(place) => Notice::with_value(item, Group::Core, 3, place),
-            CoreFault::StatusSize(place) => Notice::with_value(item, Group::Core, 4, place),
-            CoreFault::NoThread => Notice::new(item, Group::Core, 5),
-            CoreFault::TooManyThreads => unreachable!(),
-        }
+        Notice::new(item, self)
     }
 }

@@ -16,3 +16,4 @@ pub mod Span
 pub mod Step
 pub mod View
 pub mod Width
+pub mod FaultShown

@@ -3,6 +3,7 @@
 ghost use Rattle.std.specs.Prelude.{◌≡◌};
 ghost use Rattle.eh_records.specs.declared.fault.RecordFault.TheVariants.{NoMemory};
 
+use sf_model::{FaultName, FaultValues, Group, Shown, fault_values};
 use std::alloc::{AllocError, AllocFailed};
 
 /// A refused record, with the place of the refused field, in bytes from the section's start.
@@ -28,6 +29,47 @@ pub enum RecordFault {
     FunctionEnd(u32),
     /// Memory ran out.
     NoMemory,
+}
+
+impl Shown for RecordFault {
+    ghost use Rattle.eh_records.specs.FaultShown.{shown_record};
+
+    ghost shown = { shown_record };
+
+    fn name(&self) -> FaultName {
+        let (number, name) = match self {
+            RecordFault::Short(_) => (1, "Short"),
+            RecordFault::Extended(_) => (2, "Extended"),
+            RecordFault::CieVersion(_) => (3, "CieVersion"),
+            RecordFault::Augmentation(_) => (4, "Augmentation"),
+            RecordFault::CiePointer(_) => (5, "CiePointer"),
+            RecordFault::Encoding(_) => (6, "Encoding"),
+            RecordFault::Leb(_) => (7, "Leb"),
+            RecordFault::Unresolved(_) => (8, "Unresolved"),
+            RecordFault::FunctionEnd(_) => (9, "FunctionEnd"),
+            RecordFault::NoMemory => (0, ""),
+        };
+        FaultName {
+            group: Group::Record,
+            number,
+            name,
+        }
+    }
+
+    fn values(&self) -> FaultValues {
+        match self {
+            RecordFault::Short(place)
+            | RecordFault::Extended(place)
+            | RecordFault::CieVersion(place)
+            | RecordFault::Augmentation(place)
+            | RecordFault::CiePointer(place)
+            | RecordFault::Encoding(place)
+            | RecordFault::Leb(place)
+            | RecordFault::Unresolved(place)
+            | RecordFault::FunctionEnd(place) => fault_values(&[u64::from(*place)]),
+            RecordFault::NoMemory => FaultValues::new(),
+        }
+    }
 }
 
 impl From<AllocError> for RecordFault {

@@ -3,3 +3,4 @@ pub mod Dropped
 pub mod Place
 pub mod Relocations
 pub mod Views
+pub mod FaultShown

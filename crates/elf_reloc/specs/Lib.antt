@@ -6,3 +6,4 @@ pub mod Fields
 pub mod Patched
 pub mod Views
 pub mod Applied
+pub mod FaultShown

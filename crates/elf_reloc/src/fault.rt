@@ -3,6 +3,7 @@
 ghost use Rattle.std.specs.Prelude.{◌≡◌};
 ghost use Rattle.elf_reloc.specs.declared.fault.RelocFault.TheVariants.{NoMemory};
 
+use sf_model::{FaultName, FaultValues, Group, Shown, fault_values};
 use std::alloc::{AllocError, AllocFailed};
 
 /// A refused relocation, by its number among all of the section, from 0, in order of section and entry.
@@ -22,6 +23,41 @@ pub enum RelocFault {
     OutOfSection(u32),
     /// No memory was left.
     NoMemory,
+}
+
+impl Shown for RelocFault {
+    ghost use Rattle.elf_reloc.specs.FaultShown.{shown_reloc};
+
+    ghost shown = { shown_reloc };
+
+    fn name(&self) -> FaultName {
+        let (number, name) = match self {
+            RelocFault::UnknownType(_) => (1, "UnknownType"),
+            RelocFault::Range(_) => (2, "Range"),
+            RelocFault::Place(_) => (3, "Place"),
+            RelocFault::Twice(_) => (4, "Twice"),
+            RelocFault::RelSection(_) => (5, "RelSection"),
+            RelocFault::OutOfSection(_) => (6, "OutOfSection"),
+            RelocFault::NoMemory => (0, ""),
+        };
+        FaultName {
+            group: Group::Reloc,
+            number,
+            name,
+        }
+    }
+
+    fn values(&self) -> FaultValues {
+        match self {
+            RelocFault::UnknownType(index)
+            | RelocFault::Range(index)
+            | RelocFault::Place(index)
+            | RelocFault::Twice(index)
+            | RelocFault::RelSection(index)
+            | RelocFault::OutOfSection(index) => fault_values(&[u64::from(*index)]),
+            RelocFault::NoMemory => FaultValues::new(),
+        }
+    }
 }
 
 impl From<AllocError> for RelocFault {

@@ -20,7 +20,7 @@ mod function_list;
 mod initial_rows;
 mod keyed_content;
 mod lent;
-mod notices;
+mod notice;
 mod numbers;
 mod overlay;
 mod read;

@@ -95,19 +95,16 @@ fn records_of<'a>(alloc: Global, section: &CallFrameSection<'a>) -> Result<Recor
     }
 }
 
-/// Reads what its relocations write.
+/// Reads what the relocations of a section write.
 fn overlay_of(alloc: Global, placed: Option<&Placed<'_>>, section: u32) -> Result<Overlay, AsmFault>
     ensures read { IfOk result (λ overlay. relocations_by (option_map (λ p. placing p.now) placed.entry) section ≡ Ok (written_by overlay)) }
     ensures from { IfOk result (λ overlay. IsReadFrom (option_map (λ p. placing p.now) placed.entry) section (written_by overlay)) }
     ensures fault { IfErr result (λ fault. IsRelocFault section fault (relocations_by (option_map (λ p. placing p.now) placed.entry) section)) }
 {
-    match Overlay::new(alloc, placed, section) {
-        Ok(overlay) => Ok(overlay),
-        Err(fault) => Err(reloc_fault(section, fault)),
-    }
+    Overlay::new(alloc, placed, section).map_err(|fault| reloc_fault(section, fault))
 }
 
-/// Checks that each of them lies on a pointer field of the records.
+/// Checks that each relocation lies on a pointer field of the records.
 fn check_overlay(
     alloc: Global,
     section: u32,
@@ -118,10 +115,9 @@ fn check_overlay(
     ensures checked { OnOk result (AreChecked (pointer_fields (entries_of_records records.now)) (written_by overlay.now)) }
     ensures fault { IfErr result (λ fault. IsRelocFault section fault (pointer_check (pointer_fields (entries_of_records records.now)) (written_by overlay.now))) }
 {
-    match overlay.check(alloc, records) {
-        Ok(()) => Ok(()),
-        Err(fault) => Err(reloc_fault(section, fault)),
-    }
+    overlay
+        .check(alloc, records)
+        .map_err(|fault| reloc_fault(section, fault))
 }
 
 /// Returns the start and size of a function.

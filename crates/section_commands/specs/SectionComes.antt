@@ -1,26 +1,20 @@
 -- What the commands that read a section come to where the bytes are none, and what showing a section comes to.
 use Rattle.std.specs.Prelude.{◌≡◌, ℕ, List, [], ◌∷◌, get_or, Some, None, Result, Ok, Err}
-use Rattle.sf_model.specs.declared.notice.Group.TheVariants as group
 use Rattle.sf_model.specs.Section.{Section}
 use Rattle.sf_model.specs.Table.{Table}
-use Rattle.sf_model.specs.FaultShown.{FaultShown}
 use Rattle.sf_decode.specs.declared.fault.DecodeFault.{DecodeFault}
 use Rattle.sf_decode.specs.declared.fault.DecodeFault.TheVariants.{TooManyFunctions, TooManyRows}
 use Rattle.sf_decode.specs.Decoding.{section_check}
-use Rattle.sf_decode.specs.Fault.{number_and_place}
+use Rattle.sf_decode.specs.FaultShown.{shown_of_section}
 use Rattle.sf_words.specs.declared.refusal.Limit.TheVariants.{Functions, Rows}
 use Rattle.section_commands.specs.declared.made.Outcome.{Outcome}
 use Rattle.section_commands.specs.Coming.{Coming, Refused, Exceeded, Makes}
-
--- what the line of a section's fault shows: the item, the fault's number and its place
-abbrev pub shown_of_decoding : (item : ℕ) → DecodeFault → FaultShown
-shown_of_decoding item fault = record { item = Some item; group = group.Section; number = (number_and_place fault).0; values = (number_and_place fault).1 ∷ [] }
 
 -- what a fault of the section of an item comes to
 abbrev pub coming_of_decoding : (item : ℕ) → DecodeFault → Coming
 coming_of_decoding item (TooManyFunctions place) = Exceeded Functions
 coming_of_decoding item (TooManyRows place) = Exceeded Rows
-coming_of_decoding item fault = Refused (shown_of_decoding item fault)
+coming_of_decoding item fault = Refused (shown_of_section (Some item) fault)
 
 -- how a command shows a table: its outcome and its text
 abbrev pub Showing : Type 0

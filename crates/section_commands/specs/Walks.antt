@@ -1,6 +1,5 @@
 -- The walks of a core file's threads, as text, and what the commands that walk come to where the core file is refused.
 use Rattle.std.specs.Prelude.{◌≡◌, ◌⊎◌, ◌<◌, ◌+◌, ◌++◌, ℕ, Bool, true, List, [], ◌∷◌, length, Some, None}
-use Rattle.sf_model.specs.declared.notice.Group.TheVariants as group
 use Rattle.sf_model.specs.FaultShown.{FaultShown}
 use Rattle.sf_model.specs.Table.{Table}
 use Rattle.sf_model.specs.Walk.{Listing, ThreadState, section_walk}
@@ -11,14 +10,16 @@ use Rattle.core_notes.specs.Checks.{file_threads}
 use Rattle.core_notes.specs.Memory.{file_regions}
 use Rattle.core_notes.specs.FaultShown.{shown_of_core}
 use Rattle.core_walk.specs.Walk.{thread_state}
+use Rattle.sf_merge.specs.declared.fault.MergeFault.TheVariants as merge
+use Rattle.sf_merge.specs.FaultShown.{shown_of_merging}
 use Rattle.sf_text.specs.Frames.{walk_text}
 use Rattle.sf_words.specs.declared.refusal.Limit.TheVariants.{Threads}
 use Rattle.section_commands.specs.declared.walks.WalkTexts.{WalkTexts}
 use Rattle.section_commands.specs.Coming.{Coming, Exceeded, Refused}
 
--- what the line shows where item 0 and this item are for different machines: a fault of the group of linking
+-- what the line shows if item 0 and this item are for different machines
 abbrev pub shown_of_mixed : (item : ℕ) → FaultShown
-shown_of_mixed item = record { item = None; group = group.Link; number = 1; values = 0 ∷ item ∷ [] }
+shown_of_mixed item = shown_of_merging None (merge.MixedArch 0 item)
 
 -- what a fault of the core file of an item comes to
 abbrev pub coming_of_core : (item : ℕ) → CoreFault → Coming

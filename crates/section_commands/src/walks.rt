@@ -20,7 +20,8 @@ use core_walk::LookUp;
 use sf_base::NoMemory;
 use sf_decode::View;
 use sf_lookup::Indexed;
-use sf_model::{Arch, Group, Notice};
+use sf_merge::MergeFault;
+use sf_model::Arch;
 use sf_text::thread_text;
 use sf_words::{Limit, Refusal};
 use std::alloc::Global;
@@ -39,9 +40,7 @@ pub fn unread_core<'a>(fault: &CoreFault, item: u32) -> Refusal<'a>
 pub fn mixed<'a>(item: u32) -> Refusal<'a>
     ensures { ComesAs (λ (coming : Coming). coming ≡ Refused (shown_of_mixed item)) result }
 {
-    let mut notice = Notice::with_value(None, Group::Link, 1, 0);
-    notice.values.push(u64::from(item));
-    Refusal::Input(notice)
+    Refusal::Input(MergeFault::MixedArch(0, item).notice(None))
 }
 
 /// Returns whether two machines are the same.

@@ -24,7 +24,7 @@ mod inputs;
 mod laws;
 mod linked;
 mod list_forms;
-mod notices;
+mod notice;
 mod overlaps;
 mod reading;
 

@@ -1,4 +1,3 @@
-pub mod Fault
 pub mod Bounds
 pub mod Checking
 pub mod Row
@@ -7,3 +6,4 @@ pub mod Header
 pub mod Decoding
 pub mod View
 pub mod Kept
+pub mod FaultShown

@@ -31,11 +31,11 @@ value_at values i = slice_index_or values i 0
 -- what a line prints, as C has it
 abbrev pub refusal_shown : FaultShown → KiblawenRefusal
 refusal_shown shown = record {
-  group = group_number shown.group;
-  number = shown.number;
+  group = group_number shown.fault.group;
+  number = shown.fault.number;
   has_input = flag (is_some shown.item);
   input = unwrap_or shown.item 0;
-  values = value_at shown.values 0 ∷ value_at shown.values 1 ∷ value_at shown.values 2 ∷ value_at shown.values 3 ∷ [];
+  values = value_at shown.fault.values 0 ∷ value_at shown.fault.values 1 ∷ value_at shown.fault.values 2 ∷ value_at shown.fault.values 3 ∷ [];
 }
 
 -- no fault

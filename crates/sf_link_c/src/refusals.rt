@@ -45,7 +45,7 @@ fn group_number(group: Group) -> u32
 
 // Returns a value of a line, or 0 if the line has fewer.
 fn value_at(notice: &Notice, i: usize) -> u64
-    ensures { result ≡ spec.value_at (shown_by notice.now).values i }
+    ensures { result ≡ spec.value_at (shown_by notice.now).fault.values i }
 {
     let values = notice.values.as_slice();
     if i < values.len() { values[i] } else { 0 }
@@ -60,8 +60,8 @@ pub fn refusal_shown(notice: &Notice) -> KiblawenRefusal
         None => (0, 0),
     };
     KiblawenRefusal {
-        group: group_number(notice.group),
-        number: u32::from(notice.number),
+        group: group_number(notice.fault.group),
+        number: u32::from(notice.fault.number),
         has_input,
         input,
         values: [

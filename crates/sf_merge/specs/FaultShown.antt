@@ -1,20 +1,19 @@
--- What the line of a fault prints: its number in the group of faults of linking, and its values.
-use Rattle.std.specs.Prelude.{ℕ, List, [], ◌∷◌, Option}
+-- What the line of a fault of merging shows: two sections of different machines, two functions with their sections, or a start. The
+-- limits and out of memory have no line.
+use Rattle.std.specs.Prelude.{ℕ, [], ◌∷◌, Option, codes}
 use Rattle.sf_model.specs.declared.notice.Group.TheVariants as group
-use Rattle.sf_model.specs.FaultShown.{FaultShown}
+use Rattle.sf_model.specs.FaultShown.{FaultShown, ShownFault, shown_fault, fault_at, not_shown}
 use Rattle.sf_merge.specs.declared.fault.MergeFault.{MergeFault}
 use Rattle.sf_merge.specs.declared.fault.MergeFault.TheVariants as merge
 
--- a fault of the group of linking, by its number and values
-abbrev pub shown_of_link : Option ℕ → (number : ℕ) → List ℕ → FaultShown
-shown_of_link item number values = record { item = item; group = group.Link; number = number; values = values }
+abbrev pub shown_merge : MergeFault → ShownFault
+shown_merge (merge.MixedArch first other) = shown_fault group.Link 1 (codes "MixedArch") (first ∷ other ∷ [])
+shown_merge (merge.Overlap start first other second) = shown_fault group.Link 2 (codes "Overlap") (start ∷ first ∷ other ∷ second ∷ [])
+shown_merge (merge.OutOfReach start) = fault_at group.Link 3 (codes "OutOfReach") start
+shown_merge merge.TooManyFunctions = not_shown group.Link
+shown_merge merge.TooManyRows = not_shown group.Link
+shown_merge merge.NoMemory = not_shown group.Link
 
--- what the line of a fault of merging prints: two sections of different machines, two functions with their sections, or a
--- start; the limits and out of memory have no line
+-- a fault, as its line shows it
 abbrev pub shown_of_merging : Option ℕ → MergeFault → FaultShown
-shown_of_merging item (merge.MixedArch first other) = shown_of_link item 1 (first ∷ other ∷ [])
-shown_of_merging item (merge.Overlap start first other second) = shown_of_link item 2 (start ∷ first ∷ other ∷ second ∷ [])
-shown_of_merging item (merge.OutOfReach start) = shown_of_link item 3 (start ∷ [])
-shown_of_merging item merge.TooManyFunctions = shown_of_link item 0 []
-shown_of_merging item merge.TooManyRows = shown_of_link item 0 []
-shown_of_merging item merge.NoMemory = shown_of_link item 0 []
+shown_of_merging item fault = record { item = item; fault = shown_merge fault }

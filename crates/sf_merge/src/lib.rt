@@ -30,7 +30,7 @@ mod laws;
 mod list_forms;
 mod located;
 mod merging;
-mod notices;
+mod notice;
 mod overlap;
 mod reading;
 

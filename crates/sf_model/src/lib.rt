@@ -38,7 +38,7 @@ pub use laws::{
 pub use limits::{MOST_FUNCTIONS, MOST_ROWS};
 pub use machine::{Arch, Base, Key};
 pub use memory::Memory;
-pub use notice::{Group, Notice};
+pub use notice::{FaultName, FaultValues, Group, Notice, Shown, fault_values};
 pub use omission::{Omission, Omitted, Origin, Reason, Span};
 pub use recovery::{Recovered, Regs, moved, recover};
 pub use rows::{Row, Rows};

@@ -1,6 +1,8 @@
 //! How a fault is passed to the code that prints it.
 
-ghost use Rattle.std.specs.Prelude.{◌≡◌, ◌∷◌, []};
+ghost use Rattle.std.specs.Prelude.{◌≡◌, ◌≤◌, [], length, IsSome};
+ghost use Rattle.sf_model.specs.FaultShown.{shown_by};
+ghost use Rattle.sf_model.specs.Notice.{HasLine};
 
 use arrayvec::ArrayVec;
 
@@ -29,49 +31,85 @@ pub enum Group {
     Link,
 }
 
-/// A fault as numbers: which one of its group, and the values that its line shows.
+/// Which fault of its group one is.
+#[derive(Clone, Copy)]
+pub struct FaultName {
+    /// The part of the work that found the fault.
+    pub group: Group,
+    /// The fault's number in its group, as the C library has it: from 1 on, and 0 for what has no line.
+    pub number: u8,
+    /// The fault's name, as its line prints it.
+    pub name: &'static str,
+}
+
+impl FaultName {
+    /// Returns that a fault has no line, as out of memory. The fault has no number and no name.
+    pub fn none(group: Group) -> FaultName
+        ensures group { result.group ≡ group }
+        ensures number { result.number ≡ 0 }
+        ensures name { result.name.now ≡ [] }
+    {
+        FaultName {
+            group,
+            number: 0,
+            name: "",
+        }
+    }
+}
+
+/// The values of a fault, in the order in which its line prints them.
+pub type FaultValues = ArrayVec<u64, 4>;
+
+/// A fault with a name and values. What no line prints, as out of memory, has neither.
+pub trait Shown {
+    ghost use Rattle.sf_model.specs.FaultShown.{ShownFault};
+
+    ghost shown: { Self → ShownFault };
+
+    /// Returns the fault's group, number and name.
+    fn name(&self) -> FaultName
+        ensures group { result.group ≡ (shown self.now).group }
+        ensures number { result.number ≡ (shown self.now).number }
+        ensures name { result.name.now ≡ (shown self.now).name }
+        ensures short { length result.name.now ≤ 16 };
+
+    /// Returns the fault's values.
+    fn values(&self) -> FaultValues
+        ensures { result.items ≡ (shown self.now).values };
+}
+
+/// Returns the list of these values. The caller owes at most four.
+pub fn fault_values(values: &[u64]) -> FaultValues
+    requires { length values.now ≤ 4 }
+    ensures { result.items ≡ values.now }
+{
+    let mut list = ArrayVec::new();
+    let _fits = list.try_extend_from_slice(values);
+    list
+}
+
+/// A fault as its line shows it.
 #[derive(Drop)]
 pub struct Notice {
     /// The item in which the fault was found, or none in the group `Link`.
     pub item: Option<u32>,
-    /// The part of the work that found the fault.
-    pub group: Group,
-    /// The fault's number in its group, from 1.
-    pub number: u8,
-    /// The values, in the order in which they are shown.
-    pub values: ArrayVec<u64, 4>,
+    /// Which fault it is.
+    pub fault: FaultName,
+    /// Its values.
+    pub values: FaultValues,
 }
 
 impl Notice {
-    /// Returns the fault of this number, with no value.
-    pub fn new(item: Option<u32>, group: Group, number: u8) -> Notice
-        ensures item { result.item ≡ item }
-        ensures group { result.group ≡ group }
-        ensures number { result.number ≡ number }
-        ensures values { result.values.items ≡ [] }
+    /// Returns the notice of a fault that was found in this item.
+    pub fn new<F: Shown>(item: Option<u32>, fault: &F) -> Notice
+        ensures shown { shown_by result ≡ record { item = item; fault = F.shown fault.now } }
+        ensures named { length result.fault.name.now ≤ 16 }
+        ensures line { IsSome item → HasLine result }
     {
         Notice {
             item,
-            group,
-            number,
-            values: ArrayVec::new(),
-        }
-    }
-
-    /// Returns the fault of this number, with one value.
-    pub fn with_value(item: Option<u32>, group: Group, number: u8, value: u64) -> Notice
-        ensures item { result.item ≡ item }
-        ensures group { result.group ≡ group }
-        ensures number { result.number ≡ number }
-        ensures values { result.values.items ≡ value ∷ [] }
-    {
-        let mut values = ArrayVec::new();
-        values.push(value);
-        Notice {
-            item,
-            group,
-            number,
-            values,
+            fault: fault.name(),
+            values: fault.values(),
         }
     }
 }

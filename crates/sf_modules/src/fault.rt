@@ -4,6 +4,7 @@ use core_parts::Unread;
 use elf_read::ElfFault;
 use sf_base::NoMemory;
 use sf_decode::DecodeFault;
+use sf_model::{FaultName, FaultValues, Group, Shown, fault_values};
 use std::alloc::{AllocError, AllocFailed};
 
 /// Why the mapped files of a core file, or the module of a file, aren't found.
@@ -33,6 +34,42 @@ pub enum ModuleFault {
     Unread(u64),
     /// Out of memory.
     NoMemory,
+}
+
+impl Shown for ModuleFault {
+    ghost use Rattle.sf_modules.specs.FaultShown.{shown_module};
+
+    ghost shown = { shown_module };
+
+    fn name(&self) -> FaultName {
+        let (number, name) = match self {
+            ModuleFault::NoFileNote => (1, "NoFileNote"),
+            ModuleFault::FileNote(_) => (2, "FileNote"),
+            ModuleFault::Elf(fault) => return fault.name(),
+            ModuleFault::NoSection => (4, "NoSection"),
+            ModuleFault::Segments(_) => (5, "Segments"),
+            ModuleFault::NotMapped => (6, "NotMapped"),
+            ModuleFault::Mapping => (7, "Mapping"),
+            ModuleFault::Ambiguous => (8, "Ambiguous"),
+            ModuleFault::Build => (9, "Build"),
+            ModuleFault::Section(fault) => return fault.name(),
+            ModuleFault::Unread(_) | ModuleFault::NoMemory => (0, ""),
+        };
+        FaultName {
+            group: Group::Module,
+            number,
+            name,
+        }
+    }
+
+    fn values(&self) -> FaultValues {
+        match self {
+            ModuleFault::FileNote(place) | ModuleFault::Segments(place) => fault_values(&[*place]),
+            ModuleFault::Elf(fault) => fault.values(),
+            ModuleFault::Section(fault) => fault.values(),
+            _ => FaultValues::new(),
+        }
+    }
 }
 
 impl From<ElfFault> for ModuleFault {

@@ -1,10 +1,9 @@
 -- What the line of a fault prints. Two functions that share an address are a fault of the section, as in a section with the
 -- flag SFRAME_F_FDE_SORTED, and a start out of reach is a fault of linking.
-use Rattle.std.specs.Prelude.{ℕ, Bool, true, false, [], ◌∷◌, Option, None}
-use Rattle.sf_model.specs.declared.notice.Group.TheVariants as group
+use Rattle.std.specs.Prelude.{ℕ, Bool, true, false, Option, None}
 use Rattle.sf_model.specs.FaultShown.{FaultShown}
 use Rattle.sf_decode.specs.declared.fault.DecodeFault.TheVariants as decode
-use Rattle.sf_decode.specs.Fault.{number_and_place}
+use Rattle.sf_decode.specs.FaultShown.{shown_of_section}
 use Rattle.sf_merge.specs.declared.fault.MergeFault.TheVariants as merge
 use Rattle.sf_merge.specs.FaultShown.{shown_of_merging}
 use Rattle.sf_slim.specs.declared.fault.SlimFault.{SlimFault}
@@ -13,7 +12,7 @@ use Rattle.sf_slim.specs.declared.fault.SlimFault.TheVariants.{Overlap, OutOfRea
 -- what the line of a fault of slimming prints: the item and the entry's place, or the start without an item; out of memory
 -- has no line
 abbrev pub shown_of_slimming : Option ℕ → SlimFault → FaultShown
-shown_of_slimming item (Overlap place) = record { item = item; group = group.Section; number = (number_and_place (decode.Overlap place)).0; values = place ∷ [] }
+shown_of_slimming item (Overlap place) = shown_of_section item (decode.Overlap place)
 shown_of_slimming item (OutOfReach start) = shown_of_merging None (merge.OutOfReach start)
 shown_of_slimming item NoMemory = shown_of_merging None merge.NoMemory
 

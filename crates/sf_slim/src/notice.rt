@@ -1,4 +1,4 @@
-//! Faults as numbers, for the line that prints them.
+//! A fault of slimming as its line shows it.
 
 ghost use Rattle.std.specs.Prelude.{◌≡◌, IsSome, IsTrue};
 ghost use Rattle.sf_model.specs.Notice.{HasLine};
@@ -11,8 +11,7 @@ use sf_merge::MergeFault;
 use sf_model::Notice;
 
 impl SlimFault {
-    /// Returns the notice of this fault for this item's section, as its line prints it. The caller owes
-    /// that the fault is not `NoMemory`.
+    /// Returns the fault of this item's section, as its line shows it. The caller owes that the fault is not `NoMemory`.
     pub fn notice(&self, item: Option<u32>) -> Notice
         requires { IsTrue (is_slim_refusal self.now) }
         ensures shown { shown_by result ≡ shown_of_slimming item self.now }

@@ -5,7 +5,7 @@ use Rattle.std.specs.Fmt.{decimal}
 use Rattle.sf_model.specs.declared.notice.Notice.{Notice}
 use Rattle.sf_model.specs.Notice.{shows_item}
 use Rattle.sf_text.specs.Number.{hexadecimal_text}
-use Rattle.sf_text.specs.Names.{group_name, fault_name}
+use Rattle.sf_text.specs.Names.{group_name}
 
 -- the item and a blank
 abbrev pub item_text : Option ℕ → List ℕ
@@ -19,5 +19,5 @@ value_text value = codes " " ++ hexadecimal_text value
 -- `refused ITEM GROUP FAULT VALUES`, without the item in the group `link`
 unfoldable pub fault_text : Notice → List ℕ
 fault_text notice =
-    codes "refused " ++ (if shows_item notice.group then item_text notice.item else []) ++ group_name notice.group ++ codes " "
-    ++ fault_name notice.group notice.number ++ flat_map value_text notice.values.items ++ codes "\n"
+    codes "refused " ++ (if shows_item notice.fault.group then item_text notice.item else []) ++ group_name notice.fault.group ++ codes " "
+    ++ notice.fault.name.now ++ flat_map value_text notice.values.items ++ codes "\n"

@@ -9,7 +9,7 @@ ghost use Rattle.sf_model.specs.Notice.{HasLine, shows_item};
 ghost use Rattle.sf_text.specs.FaultLine.{item_text, value_text, fault_text};
 
 use crate::buffer::{Buffer, push_decimal, push_hexadecimal, push_text};
-use crate::names::{name_of_fault, name_of_group};
+use crate::names::name_of_group;
 use sf_base::{Failed, Sink, put_all};
 use sf_model::{Group, Notice};
 
@@ -35,13 +35,10 @@ fn line_of(notice: &Notice) -> Buffer
 {
     let mut line = Buffer::new();
     push_text(&mut line, b"refused ");
-    push_item(&mut line, notice.group, notice.item);
-    push_text(&mut line, name_of_group(notice.group).as_bytes());
+    push_item(&mut line, notice.fault.group, notice.item);
+    push_text(&mut line, name_of_group(notice.fault.group).as_bytes());
     push_text(&mut line, b" ");
-    push_text(
-        &mut line,
-        name_of_fault(notice.group, notice.number).as_bytes(),
-    );
+    push_text(&mut line, notice.fault.name.as_bytes());
     push_values(&mut line, notice.values.as_slice());
     push_text(&mut line, b"\n");
     line

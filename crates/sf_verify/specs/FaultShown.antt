@@ -1,11 +1,10 @@
 -- What the line of a fault of verifying prints, and which faults have one.
-use Rattle.std.specs.Prelude.{ℕ, Bool, true, false, [], ◌∷◌, Option, None}
+use Rattle.std.specs.Prelude.{ℕ, Bool, true, false, Option, None}
 use Rattle.sf_model.specs.declared.notice.Group.TheVariants as group
-use Rattle.sf_model.specs.FaultShown.{FaultShown}
+use Rattle.sf_model.specs.FaultShown.{FaultShown, not_shown}
 use Rattle.sf_decode.specs.declared.fault.DecodeFault.TheVariants as decode
-use Rattle.sf_decode.specs.Fault.{number_and_place}
+use Rattle.sf_decode.specs.FaultShown.{shown_of_section}
 use Rattle.sf_asm.specs.Fault.{is_gather_refusal, is_wrapped_answered}
-use Rattle.frame_functions.specs.FaultShown.{not_shown}
 use Rattle.sf_asm.specs.FaultShown.{shown_of_gathering}
 use Rattle.sf_verify.specs.declared.fault.VerifyFault.{VerifyFault}
 use Rattle.sf_verify.specs.declared.fault.VerifyFault.TheVariants.{Gather, Overlap, NoMemory}
@@ -14,8 +13,8 @@ use Rattle.sf_verify.specs.declared.fault.VerifyFault.TheVariants.{Gather, Overl
 -- the section, as in a section with the flag SFRAME_F_FDE_SORTED; out of memory has no line
 abbrev pub shown_of_verifying : Option ℕ → VerifyFault → FaultShown
 shown_of_verifying item (Gather fault) = shown_of_gathering None fault
-shown_of_verifying item (Overlap place) = record { item = item; group = group.Section; number = (number_and_place (decode.Overlap place)).0; values = place ∷ [] }
-shown_of_verifying item NoMemory = not_shown item
+shown_of_verifying item (Overlap place) = shown_of_section item (decode.Overlap place)
+shown_of_verifying item NoMemory = record { item = item; fault = not_shown group.Link }
 
 -- the fault has a line: it is not a limit and not out of memory
 abbrev pub is_verify_refusal : VerifyFault → Bool

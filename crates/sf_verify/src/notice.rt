@@ -1,4 +1,4 @@
-//! Faults as numbers, for the line that prints them.
+//! A fault of verifying as its line shows it.
 
 ghost use Rattle.std.specs.Prelude.{◌≡◌, IsSome, IsTrue};
 ghost use Rattle.sf_model.specs.Notice.{HasLine};
@@ -10,8 +10,7 @@ use sf_decode::DecodeFault;
 use sf_model::Notice;
 
 impl VerifyFault {
-    /// Returns the notice of this fault of this item's section or of the inputs, as its line prints it. The
-    /// caller owes that the fault is no limit and not `NoMemory`.
+    /// Returns the fault of this item's section or of the inputs, as its line shows it. The caller owes that the fault is no limit and not `NoMemory`.
     pub fn notice(&self, item: Option<u32>) -> Notice
         requires { IsTrue (is_verify_refusal self.now) }
         ensures shown { shown_by result ≡ shown_of_verifying item self.now }
