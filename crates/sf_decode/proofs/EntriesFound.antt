@@ -44,19 +44,19 @@ raised arch bytes at place f all e =
     sym (raised_of_signed f.start (start_origin (flags_in bytes) at place) (number_in 4 place bytes) (little_from-lt place 4 bytes all) e.start)
 
 -- the parts of an info byte
-shape_small : (s : Shape) → shape_number s ≤ 1
+pub shape_small : (s : Shape) → shape_number s ≤ 1
 shape_small Plain = omega arith
 shape_small (Repeat size) = omega arith
 
-key_small : (k : Key) → key_number k ≤ 1
+pub key_small : (k : Key) → key_number k ≤ 1
 key_small A = omega arith
 key_small B = omega arith
 
-key_told : (key : Key) (info s : ℕ) → s ≤ 1 → info / 16 ≡ s + 2 * key_number key → key_in info ≡ key
+pub key_told : (key : Key) (info s : ℕ) → s ≤ 1 → info / 16 ≡ s + 2 * key_number key → key_in info ≡ key
 key_told A info s small e = let test : (info / 32 % 2 == 0) ≡ true = if_eq (info / 32 % 2) 0 (omega (small, e, arith)) in ap (λ t. if t then A else B) test
 key_told B info s small e = let test : (info / 32 % 2 == 0) ≡ false = not_eq (info / 32 % 2) 0 (omega (small, e, arith)) in ap (λ t. if t then A else B) test
 
-repeat_told : (shape : Shape) (info k byte : ℕ) → info / 16 ≡ shape_number shape + 2 * k → IsRepeatSize shape byte → IsTrue (has_repeat_size info byte)
+pub repeat_told : (shape : Shape) (info k byte : ℕ) → info / 16 ≡ shape_number shape + 2 * k → IsRepeatSize shape byte → IsTrue (has_repeat_size info byte)
 repeat_told Plain info k byte e r =
     let test : (info / 16 % 2 == 1) ≡ false = not_eq (info / 16 % 2) 1 (omega (e, arith)) in
     ap (λ t. not t || not (byte == 0)) test
@@ -83,7 +83,7 @@ fields_pass bytes at place f all e =
     behind _ _ (behind _ _ (behind _ _ (holds _ _ (if_le _ _ e.start_width)) (holds _ _ known)) (holds _ _ (repeat_told f.shape info (key_number f.key) (repeat_size_at bytes place) e.info e.repeat_size)))
     (holds _ _ (both_of _ _ (both_of _ _ (if_le _ _ low) (if_lt _ _ high)) (if_le _ _ end)))
 
-begins_from_none : (rows : List Row) → BeginsFrom 0 rows
+pub begins_from_none : (rows : List Row) → BeginsFrom 0 rows
 begins_from_none [] = tt
 begins_from_none (row ∷ rows) = omega arith
 
@@ -131,11 +131,11 @@ rows_summed arch bytes flags at first (f ∷ fs) s =
     split ∙ (omega (here, later, arith) ∙ sym sum)
 
 -- the header
-arch_told : (bytes : List ℕ) (arch : Arch) → slice_index bytes 4 ≡ abi_number arch → arch_in bytes ≡ arch
+pub arch_told : (bytes : List ℕ) (arch : Arch) → slice_index bytes 4 ≡ abi_number arch → arch_in bytes ≡ arch
 arch_told bytes Amd64 e = ap (λ (t : Bool). if t then Amd64 else Aarch64) (if_eq (slice_index bytes 4) 3 e)
 arch_told bytes Aarch64 e = ap (λ (t : Bool). if t then Amd64 else Aarch64) (not_eq (slice_index bytes 4) 3 (omega (e, arith)))
 
-abi_known : (abi : ℕ) (arch : Arch) → abi ≡ abi_number arch → IsTrue (is_known_abi abi)
+pub abi_known : (abi : ℕ) (arch : Arch) → abi ≡ abi_number arch → IsTrue (is_known_abi abi)
 abi_known abi Amd64 e = or_right (abi == 2) (abi == 3) (if_eq abi 3 e)
 abi_known abi Aarch64 e = ap (λ t. t || (abi == 3)) (if_eq abi 2 e)
 
@@ -159,7 +159,7 @@ header_passes bytes t arch h =
 abbrev nothing : Func
 nothing = record { start = 0; size = 0; shape = Plain; key = A; rows = [] }
 
-some_if : (i : ℕ) → IsTrue (not (i == 0)) → 0 < i
+pub some_if : (i : ℕ) → IsTrue (not (i == 0)) → 0 < i
 some_if i e = search arith
 
 -- the order of an entry after another one

@@ -49,22 +49,22 @@ fields_passed bytes at place e =
     }
 
 -- the parts of an entry's info byte
-shape_by : (size info : ℕ) (t : Bool) → (info / 16 % 2 == 1) ≡ t → shape_number (if t then Repeat size else Plain) ≡ info / 16 % 2
+pub shape_by : (size info : ℕ) (t : Bool) → (info / 16 % 2 == 1) ≡ t → shape_number (if t then Repeat size else Plain) ≡ info / 16 % 2
 shape_by size info true e = sym (eq_if (info / 16 % 2) 1 e)
 shape_by size info false e = let not_one : info / 16 % 2 ≢ 1 = ne_if (info / 16 % 2) 1 e in omega (not_one, arith)
 
-key_by : (info : ℕ) (t : Bool) → (info / 32 % 2 == 0) ≡ t → key_number (if t then A else B) ≡ info / 32 % 2
+pub key_by : (info : ℕ) (t : Bool) → (info / 32 % 2 == 0) ≡ t → key_number (if t then A else B) ≡ info / 32 % 2
 key_by info true e = sym (eq_if (info / 32 % 2) 0 e)
 key_by info false e = let not_none : info / 32 % 2 ≢ 0 = ne_if (info / 32 % 2) 0 e in omega (not_none, arith)
 
 info_parts : (info s k : ℕ) → info < 64 → s ≡ info / 16 % 2 → k ≡ info / 32 % 2 → info / 16 ≡ s + 2 * k
 info_parts info s k lt p q = omega (lt, p, q, arith)
 
-positive : (size : ℕ) (t : Bool) → (size == 0) ≡ t → IsTrue (not t) → 0 < size
+pub positive : (size : ℕ) (t : Bool) → (size == 0) ≡ t → IsTrue (not t) → 0 < size
 positive size true e p = absurd (not_true p)
 positive size false e p = let some : size ≢ 0 = ne_if size 0 e in omega (some, arith)
 
-repeat_by : (size : ℕ) (t : Bool) → IsTrue (not t || not (size == 0)) → IsRepeatSize (if t then Repeat size else Plain) size
+pub repeat_by : (size : ℕ) (t : Bool) → IsTrue (not t || not (size == 0)) → IsRepeatSize (if t then Repeat size else Plain) size
 repeat_by size true e = (refl, positive size (size == 0) refl e)
 repeat_by size false e = tt
 
@@ -134,7 +134,7 @@ ends_before : (bytes : List ℕ) (at before place : ℕ) → order_check bytes a
 unfolding order_check
 ends_before bytes at before place e = le_if _ _ (unless_holds _ _ (both_pass _ _ e).1)
 
-not_none : (i : ℕ) → 0 < i → IsTrue (not (i == 0))
+pub not_none : (i : ℕ) → 0 < i → IsTrue (not (i == 0))
 not_none i some = search arith
 
 follows : (bytes : List ℕ) (at i : ℕ) → IsTrue (is_sorted (flags_in bytes)) → 0 < i → follows_check bytes at i ≡ Ok tt
@@ -170,11 +170,11 @@ other_abi : (abi : ℕ) (t : Bool) → (abi == 2) ≡ t → IsTrue (t || false) 
 other_abi abi true e p = eq_if abi 2 e
 other_abi abi false e p = absurd (not_true p)
 
-abi_by : (abi : ℕ) (t : Bool) → (abi == 3) ≡ t → IsTrue ((abi == 2) || t) → abi ≡ abi_number (if t then Amd64 else Aarch64)
+pub abi_by : (abi : ℕ) (t : Bool) → (abi == 3) ≡ t → IsTrue ((abi == 2) || t) → abi ≡ abi_number (if t then Amd64 else Aarch64)
 abi_by abi true e p = eq_if abi 3 e
 abi_by abi false e p = other_abi abi (abi == 2) refl p
 
-at_most : (m n high : ℕ) → m ≡ n → n ≤ high → m ≤ high
+pub at_most : (m n high : ℕ) → m ≡ n → n ≤ high → m ≤ high
 at_most m n high e le = omega (e, le, arith)
 
 within_by : (place m n high : ℕ) → m ≡ n → place + 20 * n ≤ high → place + 20 * m ≤ high

@@ -52,9 +52,9 @@ pub fn row_count(bytes: &[u8]) -> u32
     u32_at(bytes, ROW_COUNT_PLACE)
 }
 
-// Returns where the header and the auxiliary header end.
+/// Returns where the header and the auxiliary header end.
 #[inline(always)]
-fn header_end(bytes: &[u8]) -> u64
+pub fn header_end(bytes: &[u8]) -> u64
     ensures value { result ≡ section.header_end bytes.now }
     ensures small { result < 2 ^ 32 }
 {
@@ -79,9 +79,9 @@ pub fn rows_place(bytes: &[u8]) -> u64
     header_end(bytes) + u64::from(u32_at(bytes, ROWS_OFFSET_PLACE))
 }
 
-// Returns the length of the sub-section of rows.
+/// Returns the length of the sub-section of rows.
 #[inline(always)]
-fn rows_len(bytes: &[u8]) -> u64
+pub fn rows_len(bytes: &[u8]) -> u64
     ensures value { result ≡ section.rows_len bytes.now }
     ensures small { result < 2 ^ 32 }
 {
@@ -131,9 +131,9 @@ fn check_preamble(bytes: &[u8]) -> Result<(), DecodeFault>
     require(flags_of(bytes) < FLAGS_END, DecodeFault::Flags(FLAGS_PLACE))
 }
 
-// Checks the machine, its fixed offsets, and the auxiliary header.
+/// Checks the machine, its fixed offsets, and the auxiliary header.
 #[tactic(auto, unfolding(crate::specs::Header::machine_check))]
-fn check_machine(bytes: &[u8]) -> Result<(), DecodeFault>
+pub fn check_machine(bytes: &[u8]) -> Result<(), DecodeFault>
     ensures { result ≡ spec.machine_check bytes.now }
 {
     let len = bytes.len() as u64;

@@ -21,15 +21,15 @@
 mod check;
 mod entry;
 mod fault;
-mod header;
+pub mod header;
 mod iter;
 mod kept;
 mod laws;
 pub mod layout;
 mod notice;
-mod number;
+pub mod number;
 mod parsing;
-mod row;
+pub mod row;
 mod view;
 
 pub use fault::DecodeFault;

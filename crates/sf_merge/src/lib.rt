@@ -34,11 +34,14 @@ mod notice;
 mod overlap;
 mod reading;
 
+pub use checking::{check_limits, check_machines, check_overlap};
 pub use fault::MergeFault;
+pub use functions::LocatedFunctions;
+pub use head::LocatedFunction;
 pub use in_section::{SectionEntry, SectionFunctions};
 pub use laws::{merging_comes_to_a_result, merging_comes_to_one_result, merging_in_parts};
 pub use list_forms::join;
 pub use located::Located;
-pub use merging::{MergedSection, merge};
+pub use merging::{MergedSection, merge, written};
 pub use overlap::shared_entry;
-pub use reading::in_order;
+pub use reading::{all_in_order, in_order};

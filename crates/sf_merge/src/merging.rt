@@ -17,7 +17,7 @@ use sf_write::{StoredList, StoredRows, write_stored};
 use std::alloc::Global;
 
 /// Returns the functions that hold an address and have a row, and their rows.
-fn written(ordered: LocatedFunctions) -> (FunctionsWithRows<LocatedFunction>, StoredRows)
+pub fn written(ordered: LocatedFunctions) -> (FunctionsWithRows<LocatedFunction>, StoredRows)
     ensures stored { All (IsStored result.1) result.0 }
     ensures written { map (stored_in result.1) result.0 ≡ merged_functions ordered }
 {

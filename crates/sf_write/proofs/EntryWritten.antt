@@ -26,10 +26,10 @@ apart a b c d e t =
     append_assoc (a ++ b ++ c ++ d) e t ∙ (append_assoc (a ++ b ++ c) d (e ++ t) ∙ (append_assoc (a ++ b) c (d ++ (e ++ t)) ∙ append_assoc a b (c ++ (d ++ (e ++ t)))))
 
 -- what follows a run of four bytes
-after_word : (bytes : List ℕ) (place next : ℕ) (run tail : List ℕ) → drop place bytes ≡ run ++ tail → length run ≡ 4 → place + 4 ≡ next → drop next bytes ≡ tail
+pub after_word : (bytes : List ℕ) (place next : ℕ) (run tail : List ℕ) → drop place bytes ≡ run ++ tail → length run ≡ 4 → place + 4 ≡ next → drop next bytes ≡ tail
 after_word bytes place next run tail h len e = ap (λ k. drop k bytes) (sym e) ∙ after bytes place 4 run tail h len
 
-byte_in : (bytes tail : List ℕ) (place next k x : ℕ) → drop place bytes ≡ tail → slice_index tail k ≡ x → place + k ≡ next → slice_index bytes next ≡ x
+pub byte_in : (bytes tail : List ℕ) (place next k x : ℕ) → drop place bytes ≡ tail → slice_index tail k ≡ x → place + k ≡ next → slice_index bytes next ≡ x
 byte_in bytes tail place next k x h s e = ap (slice_index bytes) (sym e) ∙ (byte_at bytes tail place k h ∙ s)
 
 -- the numbers of an entry at a place
@@ -75,22 +75,22 @@ reads bytes z place size offset count info repeat tail held small low few h =
     }
 
 -- the parts of an info byte
-info_low : (x w s k : ℕ) → x ≡ w + 16 * s + 32 * k → w ≤ 2 → x % 16 ≡ w
+pub info_low : (x w s k : ℕ) → x ≡ w + 16 * s + 32 * k → w ≤ 2 → x % 16 ≡ w
 info_low x w s k e le = omega (e, le, arith)
 
-info_high : (x w s k : ℕ) → x ≡ w + 16 * s + 32 * k → w ≤ 2 → x / 16 ≡ s + 2 * k
+pub info_high : (x w s k : ℕ) → x ≡ w + 16 * s + 32 * k → w ≤ 2 → x / 16 ≡ s + 2 * k
 info_high x w s k e le = omega (e, le, arith)
 
-repeat_stands : (shape : Shape) (byte : ℕ) → byte ≡ repeat_size shape → IsTrue (shape_fits shape) → IsRepeatSize shape byte
+pub repeat_stands : (shape : Shape) (byte : ℕ) → byte ≡ repeat_size shape → IsTrue (shape_fits shape) → IsRepeatSize shape byte
 repeat_stands Plain byte e h = tt
 repeat_stands (Repeat zero) byte e h = absurd (cc)
 repeat_stands (Repeat (suc n)) byte e h = (e, omega arith)
 
-zero_if_plain : (shape : Shape) (byte : ℕ) → byte ≡ repeat_size shape → IsZeroIfPlain shape byte
+pub zero_if_plain : (shape : Shape) (byte : ℕ) → byte ≡ repeat_size shape → IsZeroIfPlain shape byte
 zero_if_plain Plain byte e = e
 zero_if_plain (Repeat size) byte e = tt
 
-size_fits : (f : Func) → IsTrue (entry_fits f) → f.size < 4294967296
+pub size_fits : (f : Func) → IsTrue (entry_fits f) → f.size < 4294967296
 unfolding entry_fits head_fits
 size_fits f h =
     below_if f.size 4294967296 (first_of (nat_lt f.size 4294967296) (nat_lt (repeat_size f.shape) 256) (first_of (head_fits (head_of f)) (holds_unsigned (last_start f.rows) (start_width f.rows)) h))
@@ -123,7 +123,7 @@ entry_reads bytes at number place offset f tail fits low few near h =
     reads bytes (start_distance at number f.start) place f.size offset (length f.rows) (entry_info (start_width f.rows) (head_of f)) (repeat_size f.shape) tail
     (held_if at number f.start near) (size_fits f fits) low few h
 
-info_parts : (f : Func) → entry_info (start_width f.rows) (head_of f) ≡ start_width f.rows + 16 * shape_number f.shape + 32 * key_number f.key
+pub info_parts : (f : Func) → entry_info (start_width f.rows) (head_of f) ≡ start_width f.rows + 16 * shape_number f.shape + 32 * key_number f.key
 unfolding entry_info
 info_parts f = refl
 

@@ -28,7 +28,7 @@ use Rattle.sf_write.proofs.RowsWritten.{first_of, second_of, least_is_there, lea
 use Rattle.sf_write.proofs.EntryWritten.{EntryWritten, entry_written, last_start_fits}
 
 -- the rows of one function
-function_rows : (MayHave : Content → ℕ → Type 0) → ((content : Content) → MayHave content (offset_width content)) → (arch : Arch) (rows : List ℕ) (place : ℕ) (f : Func) (tail : List ℕ)
+pub function_rows : (MayHave : Content → ℕ → Type 0) → ((content : Content) → MayHave content (offset_width content)) → (arch : Arch) (rows : List ℕ) (place : ℕ) (f : Func) (tail : List ℕ)
     → IsWritable arch f → IsTrue (entry_fits f) → IsTrue (rows_fit f) → drop place rows ≡ rows_bytes f.rows ++ tail
     → RowsStand MayHave arch rows (start_width f.rows) place (place + length (rows_bytes f.rows)) f.rows
 unfolding rows_bytes rows_fit
@@ -37,7 +37,7 @@ function_rows MayHave may arch rows place f tail writable fits room h =
     writable.rows_rise writable.contents room h
 
 -- a start that is in reach, and those after it
-reach_by : (near : Bool) (later : Option ℕ) (start : ℕ) → (if near then later else Some start) ≡ None → (near ≡ true) × (later ≡ None)
+pub reach_by : (near : Bool) (later : Option ℕ) (start : ℕ) → (if near then later else Some start) ≡ None → (near ≡ true) × (later ≡ None)
 reach_by true later start e = (refl, e)
 reach_by false later start e = absurd (cc)
 

@@ -19,7 +19,7 @@ use Rattle.sf_write.proofs.Lengths.{length-word, length-header, length-entries, 
 use Rattle.sf_write.proofs.Places.{after, word_at}
 use Rattle.sf_write.proofs.FunctionsWritten.{FunctionsWritten, functions_written}
 
-apart : (a b c d e f t : List ℕ) → (a ++ b ++ c ++ d ++ e ++ f) ++ t ≡ a ++ (b ++ (c ++ (d ++ (e ++ (f ++ t)))))
+pub apart : (a b c d e f t : List ℕ) → (a ++ b ++ c ++ d ++ e ++ f) ++ t ≡ a ++ (b ++ (c ++ (d ++ (e ++ (f ++ t)))))
 apart a b c d e f t =
     append_assoc (a ++ b ++ c ++ d ++ e) f t ∙ (append_assoc (a ++ b ++ c ++ d) e (f ++ t) ∙ (append_assoc (a ++ b ++ c) d (e ++ (f ++ t))
     ∙ (append_assoc (a ++ b) c (d ++ (e ++ (f ++ t))) ∙ append_assoc a b (c ++ (d ++ (e ++ (f ++ t)))))))
@@ -94,7 +94,7 @@ record PartsRead (bytes : List ℕ) (at : ℕ) (functions : List Func) : Type 0 
   entries : drop 28 bytes ≡ entries_bytes at 0 0 functions ++ flat_map (λ (f : Func). rows_bytes f.rows) functions
   rows : drop (28 + 20 * length functions) bytes ≡ flat_map (λ (f : Func). rows_bytes f.rows) functions
 
-three_apart : (a b c : List ℕ) → a ++ b ++ c ≡ a ++ (b ++ c)
+pub three_apart : (a b c : List ℕ) → a ++ b ++ c ≡ a ++ (b ++ c)
 three_apart a b c = append_assoc a b c
 
 section_is : (arch : Arch) (at : ℕ) (functions : List Func) →

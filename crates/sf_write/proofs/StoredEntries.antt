@@ -25,17 +25,17 @@ use Rattle.sf_write.proofs.NumbersFit.{short_functions}
 use Rattle.sf_write.proofs.RowsWritten.{first_of, second_of}
 use Rattle.sf_write.proofs.StoredFunctions.{StoredSays, both, range_length, stored_says}
 
-abbrev All_stored : StoredRows → List StoredFunction → Type 0
+abbrev pub All_stored : StoredRows → List StoredFunction → Type 0
 All_stored rows fs = All (IsStored rows) fs
 
-here : (rows : StoredRows) (f : StoredFunction) (fs : List StoredFunction) → All_stored rows (f ∷ fs) → IsStored rows f
+pub here : (rows : StoredRows) (f : StoredFunction) (fs : List StoredFunction) → All_stored rows (f ∷ fs) → IsStored rows f
 here rows f fs h = All-head (IsStored rows) f fs h
 
-later : (rows : StoredRows) (f : StoredFunction) (fs : List StoredFunction) → All_stored rows (f ∷ fs) → All_stored rows fs
+pub later : (rows : StoredRows) (f : StoredFunction) (fs : List StoredFunction) → All_stored rows (f ∷ fs) → All_stored rows fs
 later rows f fs h = All-tail (IsStored rows) f fs h
 
 -- the length of the range is that of the function's rows
-len_is : (rows : StoredRows) (f : StoredFunction) → IsStored rows f → f.len ≡ rows_len (stored_in rows f).rows
+pub len_is : (rows : StoredRows) (f : StoredFunction) → IsStored rows f → f.len ≡ rows_len (stored_in rows f).rows
 len_is rows f h =
     let cut = length-take f.len (drop f.place rows.bytes.items) in
     let left = length-drop f.place rows.bytes.items in
@@ -44,10 +44,10 @@ len_is rows f h =
     whole ∙ range_length rows f h
 
 -- the number of rows in the head is that of the function's rows
-count_is : (rows : StoredRows) (f : StoredFunction) → IsStored rows f → f.head.rows ≡ length (stored_in rows f).rows
+pub count_is : (rows : StoredRows) (f : StoredFunction) → IsStored rows f → f.head.rows ≡ length (stored_in rows f).rows
 count_is rows f h = ap (λ (x : FuncHead). x.rows) (stored_says rows f h).head
 
-start_is : (rows : StoredRows) (f : StoredFunction) → IsStored rows f → f.head.start ≡ (stored_in rows f).start
+pub start_is : (rows : StoredRows) (f : StoredFunction) → IsStored rows f → f.head.start ≡ (stored_in rows f).start
 start_is rows f h = ap (λ (x : FuncHead). x.start) (stored_says rows f h).head
 
 pub counts : (rows : StoredRows) (fs : List StoredFunction) → All (IsStored rows) fs → stored_count fs ≡ row_count (map (stored_in rows) fs)

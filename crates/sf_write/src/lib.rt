@@ -37,6 +37,8 @@ mod totals;
 pub use fault::WriteFault;
 pub use laws::functions_that_fit_have_a_section;
 pub use list::StoredList;
+pub use number::push_word;
 pub use packed::{PackedFunction, PackedRows};
 pub use section::{write, write_stored};
 pub use stored::{StoredFunction, StoredRows};
+pub use totals::{Totals, totals_of};

@@ -10,7 +10,7 @@ use std::alloc::AllocError;
 /// Appends a number's four bytes.
 #[tactic(auto, unfolding(crate::specs::Number::word_bytes))]
 #[inline(always)]
-pub(crate) fn push_word(bytes: &mut Vec<u8>, number: u32) -> Result<(), AllocError>
+pub fn push_word(bytes: &mut Vec<u8>, number: u32) -> Result<(), AllocError>
     ensures { OnOk result (bytes.new.items ≡ bytes.old.items ++ word_bytes number) }
 {
     bytes.extend_from_slice(&number.to_le_bytes())

@@ -23,10 +23,10 @@ pub struct StoredFunction {
     /// The place of the function's rows in the bytes.
     place: usize,
     /// How many bytes the function's rows are.
-    pub(crate) len: u32,
+    pub len: u32,
     arch: Arch,
     /// The width of the function's row starts.
-    pub(crate) width: u8,
+    pub width: u8,
 }
 
 impl StoredRows {
@@ -149,7 +149,7 @@ impl StoredRows {
     /// Returns the bytes of a function's rows.
     #[tactic(auto, using(crate::proofs::StoredFunctions::range_spelled))]
     #[inline(always)]
-    pub(crate) fn range(&self, stored: &StoredFunction) -> &[u8]
+    pub fn range(&self, stored: &StoredFunction) -> &[u8]
         requires { IsStored self.now stored.now }
         ensures range { result.now ≡ range_of self.now stored.now }
         ensures bytes { result.now ≡ rows_bytes (stored_in self.now stored.now).rows }

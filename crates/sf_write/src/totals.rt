@@ -7,15 +7,15 @@ use crate::list::StoredList;
 
 /// The sizes of all rows together.
 #[derive(Clone, Copy)]
-pub(crate) struct Totals {
+pub struct Totals {
     /// The number of rows of all functions.
-    pub(crate) rows: u32,
+    pub rows: u32,
     /// The length of all rows in bytes.
-    pub(crate) row_bytes: u32,
+    pub row_bytes: u32,
 }
 
 /// Adds up the rows of all functions.
-pub(crate) fn totals_of<L: StoredList>(functions: &L) -> Totals
+pub fn totals_of<L: StoredList>(functions: &L) -> Totals
     requires rows { stored_count (L.listed functions.now) ≤ 2 ^ 24 }
     requires len { stored_len (L.listed functions.now) ≤ 17 * 2 ^ 24 }
     ensures rows { result.rows ≡ stored_count (L.listed functions.now) }
