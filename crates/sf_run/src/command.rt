@@ -34,8 +34,9 @@ pub enum Command<'a> {
     Dump(Dump<'a>),
     /// `lookup FILE@AT PC` prints the row that holds at PC. If there is no such row, it prints `none`, and the status is 1.
     Lookup(Lookup<'a>),
-    /// `verify FILE@AT IN@BASE ..` compares a section with the files it was made from, wherever the section has a row. The
-    /// status is 1 if they differ.
+    /// `verify FILE@AT IN@BASE ..` compares a section with the files it was made from, wherever a plain function has a row.
+    /// The status is 1 if they differ. Functions of repeated blocks, such as a `.plt`, are counted and not compared: status
+    /// 0 says nothing of them.
     Verify(SectionAndInputs<'a>),
     /// `walk FILE@AT CORE DEPTH` prints the stacks of a core file with a section, at most DEPTH frames each. AT is the
     /// section's address in the process: add the load address to the AT of `link`.
