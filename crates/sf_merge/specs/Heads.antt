@@ -1,4 +1,4 @@
--- Inside the crate. GNU SFrame specification, Version 2, function descriptor entries: functions of several sections, with a head for each
+-- GNU SFrame specification, Version 2, function descriptor entries: functions of several sections, with a head for each
 -- and their rows stored in one list.
 use Rattle.std.specs.Prelude.{◌≡◌, ◌<◌, ℕ, true, List, [], All, map, length, Option, Some, None}
 use Rattle.std.specs.List.{filter_map}
