@@ -41,7 +41,7 @@ abbrev pub loading_to : (page : ℕ) → Mapping → (file : List ℕ) → (i : 
 loading_to page mapping file i (Ok after) = Ok (record {
   first = page_floor page (p_vaddr file i);
   after = after;
-  load = load_address page mapping.start mapping.offset file;
+  load = load_address page mapping file;
   build_id = build_id file;
 })
 loading_to page mapping file i (Err fault) = Err fault

@@ -23,7 +23,7 @@ pub struct Loading<'a> {
     pub first: u64,
     /// The first page after the last loaded byte, in the file's addresses.
     pub after: u64,
-    /// What is added to the file's addresses, if a segment can be mapped as the mapping says.
+    /// What is added to the file's addresses, if the mapping can be of exactly one segment.
     pub load: Option<u64>,
     /// The build identifier with its place in the file, if there is one.
     pub build_id: Option<Part<'a>>,
@@ -66,7 +66,7 @@ fn page_after(program: &Program<'_>, page: u64) -> Result<u64, LoadFault>
 }
 
 /// Returns where a file is loaded: its pages in its own addresses; what is added to these, by an executable mapping; and
-/// the build identifier. The first segment that the mapping can be of counts.
+/// the build identifier. There is no load address if the mapping can be of no segment or of several.
 ///
 /// # Errors
 ///
@@ -81,6 +81,7 @@ pub fn read_loading<'a>(
     requires page { 0 < page }
     requires small { length bytes.now < 2 ^ 32 }
     ensures exact { spec.loading_seen result ≡ spec.loading_of page mapping.now bytes.now }
+    ensures load { IfOk result (λ loading. segments.IsLoadOf page mapping.now bytes.now loading.load) }
 {
     let program = program_of(bytes)?;
     let Some(first) = first_loaded(&program.elf, program.count) else {

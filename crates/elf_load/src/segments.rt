@@ -1,7 +1,6 @@
 //! The loaded segments of a file.
 
 ghost use Rattle.std.specs.Prelude.{◌≡◌, ◌<◌, ◌^◌, max};
-ghost use Rattle.std.specs.List.{find};
 ghost use Rattle.elf_read.specs.Sections.{segment_total};
 ghost use Rattle.elf_read.specs.Views.{file};
 ghost use Rattle.elf_load.specs.Segments as spec;
@@ -82,29 +81,45 @@ pub fn memory_end(elf: &Elf<'_>, count: u32) -> u128
 }
 
 // Returns whether an executable mapping that begins at a place of the file can be of a segment.
-fn is_mapped_from(elf: &Elf<'_>, page: u64, offset: u64, i: u32) -> bool
+fn can_be_of(elf: &Elf<'_>, page: u64, offset: u64, i: u32) -> bool
     requires { 0 < page }
-    ensures { result ≡ spec.is_mapped_from page offset (file elf.now) i }
+    ensures { result ≡ spec.can_be_of page offset (file elf.now) i }
 {
     let place = elf.segment(i).place;
+    let end = u128::from(place) + u128::from(elf.file_size(i));
     is_loaded(elf, i)
         && elf.is_executable(i)
         && page_floor(page, place) <= offset
-        && u128::from(offset) < u128::from(place) + u128::from(elf.file_size(i))
+        && u128::from(offset) < page_ceiling(page, end)
 }
 
-// Finds the number of the first segment that an executable mapping can be of.
+// Finds the number of the only segment that an executable mapping can be of.
 fn mapped_segment(elf: &Elf<'_>, count: u32, page: u64, offset: u64) -> Option<u32>
     requires page { 0 < page }
     requires count { count ≡ segment_total (file elf.now) }
-    ensures { result ≡ find (spec.is_mapped_from page offset (file elf.now)) (spec.header_numbers (file elf.now)) }
+    ensures { result ≡ spec.only_one (spec.mapped_segments page offset (file elf.now)) }
 {
+    let mut found = None;
     for i in 0..count {
-        if is_mapped_from(elf, page, offset, i) {
-            return Some(i);
+        if can_be_of(elf, page, offset, i) {
+            if found.is_some() {
+                return None;
+            }
+            found = Some(i);
         }
     }
-    None
+    found
+}
+
+/// Returns what is added to a file's addresses where a mapping is of the segment with this address and this place in the
+/// file.
+pub fn load_by(mapping: &Mapping, vaddr: u64, place: u64) -> u64
+    ensures value { result ≡ spec.load_by mapping.now vaddr place }
+    ensures loaded { spec.IsLoadedAt result mapping.now vaddr place }
+{
+    let before = mapping.start.wrapping_sub(mapping.offset);
+    let address = before.wrapping_add(place);
+    address.wrapping_sub(vaddr)
 }
 
 /// Returns what is added to the file's addresses, by an executable mapping of the file.
@@ -112,13 +127,9 @@ fn mapped_segment(elf: &Elf<'_>, count: u32, page: u64, offset: u64) -> Option<u
 pub fn load_address(elf: &Elf<'_>, count: u32, page: u64, mapping: &Mapping) -> Option<u64>
     requires page { 0 < page }
     requires count { count ≡ segment_total (file elf.now) }
-    ensures { result ≡ spec.load_address page mapping.now.start mapping.now.offset (file elf.now) }
+    ensures { result ≡ spec.load_address page mapping.now (file elf.now) }
 {
     let i = mapped_segment(elf, count, page, mapping.offset)?;
     let segment = elf.segment(i);
-    let down = mapping.start.wrapping_sub(segment.vaddr);
-    Some(
-        down.wrapping_sub(mapping.offset)
-            .wrapping_add(segment.place),
-    )
+    Some(load_by(mapping, segment.vaddr, segment.place))
 }
