@@ -336,6 +336,22 @@ static void going_on_signed(void)
     s.has_mask = 0;
     CHECK(goes_on(&one, cache, 1, &s, start, 3, &(struct expected){{{0x1008, 0x7020, 0}}, 1,
         KIBLAWEN_STOP_SIGNED, 0x2a000000001014, start}));
+    /* Return addresses that nothing signed: they are taken up to 48 bits, where kiblawen_walk stops. */
+    static const struct { uint64_t address; bool goes_on; } returns[] = {{0x1014, true}, {0xffffffffffff, true}, {0x1000000000000, false}};
+    for (size_t i = 0; i < sizeof returns / sizeof returns[0]; i++) {
+        uint64_t plain[2] = {0x1111, returns[i].address};
+        struct kiblawen_module_frame frames[2];
+        struct kiblawen_state state = start;
+        struct kiblawen_stop stop;
+        s.stack = (const uint8_t *)plain;
+        CHECK(kiblawen_walk_on(&one, cache, 1, &s, &state, frames, 2, &stop) == 1u + returns[i].goes_on);
+        CHECK(returns[i].goes_on ? frames[1].pc == returns[i].address : stop.kind == KIBLAWEN_STOP_SIGNED && stop.value == returns[i].address);
+        CHECK(walk_is(&aarch64, &s, 8, &(struct kiblawen_frame){0x1008, 0x7020}, 1, KIBLAWEN_STOP_SIGNED, returns[i].address));
+        /* A mask of 0 clears nothing and stops nowhere. */
+        s.has_mask = 1, s.mask = 0, state = start;
+        CHECK(kiblawen_walk_on(&one, cache, 1, &s, &state, frames, 2, &stop) == 2 && frames[1].pc == returns[i].address);
+        s.has_mask = 0;
+    }
 }
 
 static bool works(void)

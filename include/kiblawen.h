@@ -146,7 +146,8 @@ bool kiblawen_find(const struct kiblawen_section *section, uint64_t pc, struct k
 
 /*
  * A stopped thread, and a copy of part of its stack: `stack_len` bytes from the address `stack_start` on. A value that
- * is not wholly in the copy can't be read. Bytes past the last address are in no copy.
+ * is not wholly in the copy can't be read. Bytes past the last address are in no copy. On an AArch64 processor without
+ * pointer authentication, for which the kernel gives no mask, nothing is signed: has_mask = 1 with mask = 0 says so.
  */
 struct kiblawen_sample {
     uint64_t pc;
@@ -188,7 +189,7 @@ enum kiblawen_stop_kind {
     KIBLAWEN_STOP_ROOM = 0,       /* there is no more room (the value is 0) */
     KIBLAWEN_STOP_OUTSIDE = 1,    /* no row holds at this address: the pc, or for a caller the address before its pc */
     KIBLAWEN_STOP_UNREADABLE = 2, /* a value is saved at this address, and its eight bytes are not all in the copy */
-    KIBLAWEN_STOP_SIGNED = 3      /* this return address is signed, and the sample has no mask */
+    KIBLAWEN_STOP_SIGNED = 3      /* the row has this return address signed, and the sample has no mask */
 };
 
 struct kiblawen_stop {
@@ -222,10 +223,13 @@ size_t kiblawen_walk_modules(const struct kiblawen_module *modules, size_t count
                              struct kiblawen_frame *frames, size_t room, struct kiblawen_stop *stop) KIBLAWEN_NONNULL;
 
 /*
- * Walks that go on. They list the frames of kiblawen_walk_modules, and more where that stops at a frame pointer that
- * can't be read: such a frame pointer is unknown, and no value is guessed for it. Rows that count from the stack pointer
- * don't need it. The walk stops (unreadable) at the first row that counts from it, with the address where it was to be
- * read. It is unknown after a `ret` that follows `leave` or `pop`: there the row has a place below the stack pointer.
+ * Walks that go on. They list the frames of kiblawen_walk_modules, and more where that stops
+ * - at a frame pointer that can't be read: such a frame pointer is unknown, and no value is guessed for it. Rows that
+ *   count from the stack pointer don't need it. The walk stops (unreadable) at the first row that counts from it, with the
+ *   address where it was to be read. It is unknown after a `ret` that follows `leave` or `pop`: there the row has a place
+ *   below the stack pointer;
+ * - at a signed row without a mask: a return address below 2^48 is taken as it is, since a processor without pointer
+ *   authentication signs nothing. The walk stops (signed) at one with a higher bit.
  */
 
 /* Modules in any order, and their indices in the order of addresses, which kiblawen_index writes. */

@@ -1,7 +1,8 @@
--- Walks that go on: one after another, and beside the walk that stops at a frame pointer that can't be read.
+-- Walks that go on: one after another, and beside the walk that stops at a frame pointer that can't be read, or without a mask at a signed row.
 use Rattle.std.specs.Option.{option_map}
-use Rattle.std.specs.Prelude.{ℤ}
-use Rattle.std.proofs.Common.{◌≡◌, ℕ, zero, suc, ◌+◌, Bool, true, false, Option, Some, None, List, [], ◌∷◌, Result, Ok, Err, inl, inr, refl, sym, ap, subst, ◌∙◌, arith}
+use Rattle.std.specs.Prelude.{ℤ, nat_lt}
+use Rattle.std.proofs.lemmas.Bool.{ltb-true}
+use Rattle.std.proofs.Common.{◌≡◌, ℕ, zero, suc, ◌+◌, ◌^◌, ◌<◌, ◌⊎◌, Bool, true, false, Option, Some, None, List, [], ◌∷◌, Result, Ok, Err, inl, inr, refl, sym, ap, subst, ◌∙◌, arith}
 use Rattle.sf_model.specs.declared.recovery.Regs.{Regs}
 use Rattle.sf_model.specs.declared.content.Content.{Content}
 use Rattle.sf_model.specs.declared.content.Ra.{Ra}
@@ -19,8 +20,9 @@ use Rattle.sf_model.specs.Walk.{Going, Listing, LookUp, address_before, behind, 
 use Rattle.sample_walk.specs.declared.state.State.{State}
 use Rattle.sample_walk.specs.declared.state.Value.{Value}
 use Rattle.sample_walk.specs.declared.state.Value.TheVariants.{Known}
-use Rattle.sample_walk.specs.Step.{asked_by, base_register, by_address, by_base, by_return, restored_value, content_rule, saved_return, value_read, step_by, unsigned_by}
-use Rattle.sample_walk.specs.Onward.{GoesOnFromItsState, GoesOnPastFramePointers, GoesOnWhereUnread, Place, Stepping, Walked, and_then, from_frame, listing_of, stepping, then_from, walk_on}
+use Rattle.sample_walk.specs.Step.{asked_by, base_register, by_address, by_base, by_return, restored_value, content_rule, saved_return, value_read, step_by}
+use Rattle.sample_walk.specs.Signature.{in_address_space, unsigned_by}
+use Rattle.sample_walk.specs.Onward.{GoesOnFromItsState, GoesOnBeside, GoesOnPastStops, GoesPast, Place, Stepping, Walked, and_then, from_frame, listing_of, stepping, then_from, walk_on}
 
 -- ---- one walk after another
 pub walk-zero : (step : Stepping) (at : State) → walk_on step 0 at ≡ record { places = []; stop = None; at = at }
@@ -53,107 +55,123 @@ from_state step (suc n) m at =
     ∙ joined_step at (step at).0 (step at).1 (walk_on step n) (walk_on step m) (walk_on step (n + m)) (from_state step n m)
     ∙ ap (λ (w : Walked). and_then w (walk_on step m)) (sym (walk-suc step n at))
 
--- ---- beside the walk that stops at a frame pointer that can't be read
+-- ---- beside the walk that stops there
 -- the state of a program counter and registers that are known
 abbrev state_of : (returned : Bool) → (pc : ℕ) → Regs → State
 state_of returned pc regs = record { pc = pc; sp = regs.sp; fp = Known regs.fp; lr = regs.lr; returned = returned }
 
-one_before : (frame : Frame) (on once : Listing) → GoesOnWhereUnread on once → GoesOnWhereUnread (behind frame on) (behind frame once)
-one_before frame on once (inl e) = inl (ap (behind frame) e)
-one_before frame on once (inr h) = inr (h.0, (h.1.0, ap (λ (fs : List Frame). frame ∷ fs) h.1.1))
+one_before : (mask : Option ℕ) (frame : Frame) (on once : Listing) → GoesOnBeside mask on once → GoesOnBeside mask (behind frame on) (behind frame once)
+one_before mask frame on once (inl e) = inl (ap (behind frame) e)
+one_before mask frame on once (inr h) = inr (h.0, (h.1.0, ap (λ (fs : List Frame). frame ∷ fs) h.1.1))
 
 -- both walks go on alike after a frame
-abbrev Alike : (State → Walked) → Going → Type 0
-Alike on once = (pc : ℕ) (regs : Regs) → GoesOnWhereUnread (listing_of (on (state_of true pc regs))) (once pc regs)
+abbrev Alike : (mask : Option ℕ) → (State → Walked) → Going → Type 0
+Alike mask on once = (pc : ℕ) (regs : Regs) → GoesOnBeside mask (listing_of (on (state_of true pc regs))) (once pc regs)
 
-same_unsigned : (signed : Bool) (key : Key) (mask : Option ℕ) (address : ℕ) → unsigned_by signed mask address ≡ unsigned_address (key_if_signed signed key) mask address
-same_unsigned true key None address = refl
-same_unsigned true key (Some mask) address = refl
-same_unsigned false key mask address = refl
+-- both walks have the same return address; or one alone has it, since it is in the address space and there is no mask
+abbrev AreUnsigned : (mask : Option ℕ) → (address : ℕ) → (on once : Option ℕ) → Type 0
+AreUnsigned mask address on once = (on ≡ once) ⊎ ((once ≡ None) × ((mask ≡ None) × (address < 2 ^ 48)))
 
-by_unsigned : (on : State → Walked) (once : Going) → Alike on once → (at : State) (frame : Frame) (base fp address : ℕ) (unsigned : Option ℕ)
-    → GoesOnWhereUnread (listing_of (from_frame on at frame (by_address base (Known fp) address unsigned))) (behind frame (on_by_address once base fp address unsigned))
-by_unsigned on once alike at frame base fp address (Some pc) =
-    let regs : Regs = record { sp = base; fp = fp; lr = address } in one_before frame (listing_of (on (state_of true pc regs))) (once pc regs) (alike pc regs)
-by_unsigned on once alike at frame base fp address None = inl refl
+without_mask : (address : ℕ) (within : Bool) → nat_lt address (2 ^ 48) ≡ within → AreUnsigned None address (in_address_space address) None
+without_mask address true e = inr (refl, (refl, ltb-true address (2 ^ 48) e))
+without_mask address false e = inl (rw e refl)
 
-by_unread : (on : State → Walked) (at : State) (frame : Frame) (base place address : ℕ) (unsigned : Option ℕ)
-    → GoesOnWhereUnread (listing_of (from_frame on at frame (by_address base (Value.Unreadable place) address unsigned))) (behind frame (stopped (Stop.Unreadable place)))
-by_unread on at frame base place address (Some pc) =
-    let caller : State = record { pc = pc; sp = base; fp = Value.Unreadable place; lr = address; returned = true } in
-    inr ((place, refl), ((listing_of (on caller)).frames, refl))
-by_unread on at frame base place address None = inr ((place, refl), ([], refl))
+are_unsigned : (signed : Bool) (key : Key) (mask : Option ℕ) (address : ℕ) → AreUnsigned mask address (unsigned_by signed mask address) (unsigned_address (key_if_signed signed key) mask address)
+are_unsigned true key None address = without_mask address (nat_lt address (2 ^ 48)) refl
+are_unsigned true key (Some mask) address = inl refl
+are_unsigned false key mask address = inl refl
 
-by_read : (on : State → Walked) (once : Going) → Alike on once → (at : State) (frame : Frame) (base place address : ℕ) (unsigned : Option ℕ) (r : Recovery) (mask : Option ℕ) (read : Option ℕ)
-    → unsigned ≡ unsigned_address r.signed mask address → r.stack_pointer ≡ base
-    → GoesOnWhereUnread (listing_of (from_frame on at frame (by_address base (value_read place read) address unsigned)))
+by_same : (mask : Option ℕ) (on : State → Walked) (once : Going) → Alike mask on once → (at : State) (frame : Frame) (base fp address : ℕ) (unsigned : Option ℕ)
+    → GoesOnBeside mask (listing_of (from_frame on at frame (by_address base (Known fp) address unsigned))) (behind frame (on_by_address once base fp address unsigned))
+by_same mask on once alike at frame base fp address (Some pc) =
+    let regs : Regs = record { sp = base; fp = fp; lr = address } in one_before mask frame (listing_of (on (state_of true pc regs))) (once pc regs) (alike pc regs)
+by_same mask on once alike at frame base fp address None = inl refl
+
+-- that walk stops, and this one lists the frame and what follows
+stopped_there : (mask : Option ℕ) (on : State → Walked) (at : State) (frame : Frame) (base : ℕ) (fp : Value) (address : ℕ) (unsigned : Option ℕ) (stop : Stop) → GoesPast mask stop
+    → GoesOnBeside mask (listing_of (from_frame on at frame (by_address base fp address unsigned))) (behind frame (stopped stop))
+stopped_there mask on at frame base fp address (Some pc) stop past =
+    let caller : State = record { pc = pc; sp = base; fp = fp; lr = address; returned = true } in inr (past, ((listing_of (on caller)).frames, refl))
+stopped_there mask on at frame base fp address None stop past = inr (past, ([], refl))
+
+by_unsigned : (mask : Option ℕ) (on : State → Walked) (once : Going) → Alike mask on once → (at : State) (frame : Frame) (base fp address : ℕ) (ours theirs : Option ℕ) → AreUnsigned mask address ours theirs
+    → GoesOnBeside mask (listing_of (from_frame on at frame (by_address base (Known fp) address ours))) (behind frame (on_by_address once base fp address theirs))
+by_unsigned mask on once alike at frame base fp address ours theirs (inl same) =
+    subst (λ (o : Option ℕ). GoesOnBeside mask (listing_of (from_frame on at frame (by_address base (Known fp) address ours))) (behind frame (on_by_address once base fp address o))) same
+    (by_same mask on once alike at frame base fp address ours)
+by_unsigned mask on once alike at frame base fp address ours theirs (inr h) =
+    subst (λ (o : Option ℕ). GoesOnBeside mask (listing_of (from_frame on at frame (by_address base (Known fp) address ours))) (behind frame (on_by_address once base fp address o))) (sym h.0)
+    (stopped_there mask on at frame base (Known fp) address ours (Stop.Signed address) (inr (address, (refl, h.1))))
+
+by_read : (on : State → Walked) (once : Going) (at : State) (frame : Frame) (base place address : ℕ) (ours : Option ℕ) (r : Recovery) (mask : Option ℕ) (read : Option ℕ) → Alike mask on once
+    → AreUnsigned mask address ours (unsigned_address r.signed mask address) → r.stack_pointer ≡ base
+    → GoesOnBeside mask (listing_of (from_frame on at frame (by_address base (value_read place read) address ours)))
     (behind frame (on_by_pointer once mask r address (model.saved_value place read)))
-by_read on once alike at frame base place address unsigned r mask (Some fp) e is =
-    subst (λ (o : Option ℕ). GoesOnWhereUnread (listing_of (from_frame on at frame (by_address base (Known fp) address unsigned))) (behind frame (on_by_address once r.stack_pointer fp address o))) e
-    (subst (λ (b : ℕ). GoesOnWhereUnread (listing_of (from_frame on at frame (by_address base (Known fp) address unsigned))) (behind frame (on_by_address once b fp address unsigned))) (sym is)
-    (by_unsigned on once alike at frame base fp address unsigned))
-by_read on once alike at frame base place address unsigned r mask None e is = by_unread on at frame base place address unsigned
+by_read on once at frame base place address ours r mask (Some fp) alike e is =
+    subst (λ (b : ℕ). GoesOnBeside mask (listing_of (from_frame on at frame (by_address base (Known fp) address ours))) (behind frame (on_by_address once b fp address (unsigned_address r.signed mask address)))) (sym is)
+    (by_unsigned mask on once alike at frame base fp address ours (unsigned_address r.signed mask address) e)
+by_read on once at frame base place address ours r mask None alike e is =
+    stopped_there mask on at frame base (Value.Unreadable place) address ours (Stop.Unreadable place) (inl (place, refl))
 
-by_pointer : (on : State → Walked) (once : Going) → Alike on once → (mask : Option ℕ) (memory : List Region) (returned : Bool) (pc : ℕ) (regs : Regs) (content : Content) (key : Key) (address : ℕ) (offset : Option ℤ)
+by_pointer : (on : State → Walked) (once : Going) (mask : Option ℕ) → Alike mask on once → (memory : List Region) (returned : Bool) (pc : ℕ) (regs : Regs) (content : Content) (key : Key) (address : ℕ) (offset : Option ℤ)
     → content.fp ≡ offset
     → let r = recovery content key regs memory in let base = frame_address_of content regs in let frame : Frame = record { pc = pc; cfa = Some base } in
-    GoesOnWhereUnread (listing_of (from_frame on (state_of returned pc regs) frame (by_address base (restored_value memory base (Known regs.fp) offset) address (unsigned_by content.signed mask address))))
+    GoesOnBeside mask (listing_of (from_frame on (state_of returned pc regs) frame (by_address base (restored_value memory base (Known regs.fp) offset) address (unsigned_by content.signed mask address))))
     (behind frame (on_by_pointer once mask r address (saved_or_kept memory regs.fp (pointer_place offset base))))
 unfolding recovery
-by_pointer on once alike mask memory returned pc regs content key address (Some o) is =
+by_pointer on once mask alike memory returned pc regs content key address (Some o) is =
     let base = frame_address_of content regs in
-    by_read on once alike (state_of returned pc regs) (record { pc = pc; cfa = Some base }) base (moved base o) address (unsigned_by content.signed mask address) (recovery content key regs memory) mask
-    (read_eight memory (moved base o)) (same_unsigned content.signed key mask address) refl
-by_pointer on once alike mask memory returned pc regs content key address None is =
+    by_read on once (state_of returned pc regs) (record { pc = pc; cfa = Some base }) base (moved base o) address (unsigned_by content.signed mask address) (recovery content key regs memory) mask
+    (read_eight memory (moved base o)) alike (are_unsigned content.signed key mask address) refl
+by_pointer on once mask alike memory returned pc regs content key address None is =
     let base = frame_address_of content regs in
-    subst (λ (o : Option ℕ). GoesOnWhereUnread (listing_of (from_frame on (state_of returned pc regs) (record { pc = pc; cfa = Some base }) (by_address base (Known regs.fp) address (unsigned_by content.signed mask address)))) (behind (record { pc = pc; cfa = Some base }) (on_by_address once base regs.fp address o)))
-    (same_unsigned content.signed key mask address)
-    (by_unsigned on once alike (state_of returned pc regs) (record { pc = pc; cfa = Some base }) base regs.fp address (unsigned_by content.signed mask address))
+    by_unsigned mask on once alike (state_of returned pc regs) (record { pc = pc; cfa = Some base }) base regs.fp address (unsigned_by content.signed mask address) (unsigned_address (key_if_signed content.signed key) mask address)
+    (are_unsigned content.signed key mask address)
 
 -- a return address, as both walks have it
-by_known : (on : State → Walked) (once : Going) → Alike on once → (mask : Option ℕ) (memory : List Region) (returned : Bool) (pc : ℕ) (regs : Regs) (content : Content) (key : Key) (place : ℕ) (read : Option ℕ)
+by_known : (on : State → Walked) (once : Going) (mask : Option ℕ) → Alike mask on once → (memory : List Region) (returned : Bool) (pc : ℕ) (regs : Regs) (content : Content) (key : Key) (place : ℕ) (read : Option ℕ)
     → let r = recovery content key regs memory in let base = frame_address_of content regs in let frame : Frame = record { pc = pc; cfa = Some base } in
-    GoesOnWhereUnread (listing_of (from_frame on (state_of returned pc regs) frame (by_return (content_rule content) mask memory (state_of returned pc regs) base (value_read place read))))
+    GoesOnBeside mask (listing_of (from_frame on (state_of returned pc regs) frame (by_return (content_rule content) mask memory (state_of returned pc regs) base (value_read place read))))
     (behind frame (on_by once mask r (model.saved_value place read)))
 unfolding recovery
-by_known on once alike mask memory returned pc regs content key place (Some address) = by_pointer on once alike mask memory returned pc regs content key address content.fp refl
-by_known on once alike mask memory returned pc regs content key place None = inl refl
+by_known on once mask alike memory returned pc regs content key place (Some address) = by_pointer on once mask alike memory returned pc regs content key address content.fp refl
+by_known on once mask alike memory returned pc regs content key place None = inl refl
 
-by_ra : (on : State → Walked) (once : Going) → Alike on once → (mask : Option ℕ) (memory : List Region) (returned : Bool) (pc : ℕ) (regs : Regs) (content : Content) (key : Key) (ra : Ra)
+by_ra : (on : State → Walked) (once : Going) (mask : Option ℕ) → Alike mask on once → (memory : List Region) (returned : Bool) (pc : ℕ) (regs : Regs) (content : Content) (key : Key) (ra : Ra)
     → let r = recovery content key regs memory in let base = frame_address_of content regs in let frame : Frame = record { pc = pc; cfa = Some base } in
-    GoesOnWhereUnread (listing_of (from_frame on (state_of returned pc regs) frame (by_return (content_rule content) mask memory (state_of returned pc regs) base (restored_value memory base (Known regs.lr) (saved_return ra)))))
+    GoesOnBeside mask (listing_of (from_frame on (state_of returned pc regs) frame (by_return (content_rule content) mask memory (state_of returned pc regs) base (restored_value memory base (Known regs.lr) (saved_return ra)))))
     (behind frame (on_by once mask r (saved_or_kept memory regs.lr (return_place ra base))))
 unfolding recovery
-by_ra on once alike mask memory returned pc regs content key Fixed = let place = moved (frame_address_of content regs) (Rattle.std.specs.Prelude.negsuc 7) in by_known on once alike mask memory returned pc regs content key place (read_eight memory place)
-by_ra on once alike mask memory returned pc regs content key Link = by_pointer on once alike mask memory returned pc regs content key regs.lr content.fp refl
-by_ra on once alike mask memory returned pc regs content key (At o) = let place = moved (frame_address_of content regs) o in by_known on once alike mask memory returned pc regs content key place (read_eight memory place)
+by_ra on once mask alike memory returned pc regs content key Fixed = let place = moved (frame_address_of content regs) (Rattle.std.specs.Prelude.negsuc 7) in by_known on once mask alike memory returned pc regs content key place (read_eight memory place)
+by_ra on once mask alike memory returned pc regs content key Link = by_pointer on once mask alike memory returned pc regs content key regs.lr content.fp refl
+by_ra on once mask alike memory returned pc regs content key (At o) = let place = moved (frame_address_of content regs) o in by_known on once mask alike memory returned pc regs content key place (read_eight memory place)
 
 base_is : (returned : Bool) (pc : ℕ) (regs : Regs) (base : Base) → base_register base (state_of returned pc regs) ≡ Known (base_value base regs)
 base_is returned pc regs Fp = refl
 base_is returned pc regs Sp = refl
 
-by_row : (on : State → Walked) (once : Going) → Alike on once → (mask : Option ℕ) (memory : List Region) (returned : Bool) (pc : ℕ) (regs : Regs) (o : Option FoundRow)
+by_row : (on : State → Walked) (once : Going) (mask : Option ℕ) → Alike mask on once → (memory : List Region) (returned : Bool) (pc : ℕ) (regs : Regs) (o : Option FoundRow)
     → let at = state_of returned pc regs in let now = step_by (option_map (λ (found : FoundRow). content_rule found.row.content) o) mask memory at in
-    GoesOnWhereUnread (listing_of (from_frame on at now.0 now.1))
+    GoesOnBeside mask (listing_of (from_frame on at now.0 now.1))
     (frame_by once mask (asked_by returned pc) pc (option_map (λ (found : FoundRow). recovery found.row.content found.func.key regs memory) o))
 unfolding step_by recovery
-by_row on once alike mask memory returned pc regs (Some found) =
+by_row on once mask alike memory returned pc regs (Some found) =
     let at = state_of returned pc regs in
     let rule = content_rule found.row.content in
     let r = recovery found.row.content found.func.key regs memory in
-    subst (λ (v : Value). GoesOnWhereUnread (listing_of (from_frame on at (by_base rule mask memory at v).0 (by_base rule mask memory at v).1)) (frame_by once mask (asked_by returned pc) pc (Some r)))
+    subst (λ (v : Value). GoesOnBeside mask (listing_of (from_frame on at (by_base rule mask memory at v).0 (by_base rule mask memory at v).1)) (frame_by once mask (asked_by returned pc) pc (Some r)))
     (sym (base_is returned pc regs found.row.content.base))
-    (by_ra on once alike mask memory returned pc regs found.row.content found.func.key found.row.content.ra)
-by_row on once alike mask memory returned pc regs None = inl refl
+    (by_ra on once mask alike memory returned pc regs found.row.content found.func.key found.row.content.ra)
+by_row on once mask alike memory returned pc regs None = inl refl
 
 from_any : (look_up : LookUp) (mask : Option ℕ) (memory : List Region) (depth : ℕ) (returned : Bool) (pc : ℕ) (regs : Regs)
-    → GoesOnWhereUnread (listing_of (walk_on (stepping look_up mask memory) depth (state_of returned pc regs))) (frames_from (recover_by look_up memory) mask depth (asked_by returned pc) pc regs)
+    → GoesOnBeside mask (listing_of (walk_on (stepping look_up mask memory) depth (state_of returned pc regs))) (frames_from (recover_by look_up memory) mask depth (asked_by returned pc) pc regs)
 unfolding walk_on frames_from
 from_any look_up mask memory zero returned pc regs = inl refl
 from_any look_up mask memory (suc depth) returned pc regs =
     by_row (walk_on (stepping look_up mask memory) depth) (λ next. frames_from (recover_by look_up memory) mask depth (address_before next) next)
-    (λ p r. from_any look_up mask memory depth true p r) mask memory returned pc regs (look_up (asked_by returned pc))
+    mask (λ p r. from_any look_up mask memory depth true p r) memory returned pc regs (look_up (asked_by returned pc))
 
-pub past_frame_pointers : GoesOnPastFramePointers
+pub past_stops : GoesOnPastStops
 unfolding walk_by
-past_frame_pointers look_up thread memory depth = from_any look_up thread.mask memory depth false thread.pc thread.regs
+past_stops look_up thread memory depth = from_any look_up thread.mask memory depth false thread.pc thread.regs

@@ -1,3 +1,4 @@
+pub mod Signature
 pub mod Step
 pub mod Onward
 pub mod Cache

@@ -1,9 +1,9 @@
 -- A walk from a state, which gives the state where it ends (GNU SFrame specification, Version 2: what an SFrame section is for), and
--- what is true of it beside `look_up_walk`, which stops at the first frame pointer that can't be read.
-use Rattle.std.specs.Prelude.{◌≡◌, ◌++◌, ◌+◌, ◌⊎◌, ℕ, zero, suc, false, List, [], ◌∷◌, map, Option, Some, None, Result, Ok, Err, unwrap_or}
+-- what is true of it beside `look_up_walk`, which stops at the first frame pointer that can't be read, and without a mask at the first signed row.
+use Rattle.std.specs.Prelude.{◌≡◌, ◌++◌, ◌+◌, ◌⊎◌, ◌<◌, ◌^◌, ℕ, zero, suc, false, List, [], ◌∷◌, map, Option, Some, None, Result, Ok, Err, unwrap_or}
 use Rattle.sf_model.specs.declared.walk.Frame.{Frame}
 use Rattle.sf_model.specs.declared.walk.Stop.{Stop}
-use Rattle.sf_model.specs.declared.walk.Stop.TheVariants.{Depth, Unreadable}
+use Rattle.sf_model.specs.declared.walk.Stop.TheVariants.{Depth, Signed, Unreadable}
 use Rattle.sf_model.specs.Memory.{Region}
 use Rattle.sf_model.specs.Walk.{Listing, LookUp, ThreadState, look_up_walk}
 use Rattle.sample_walk.specs.declared.state.State.{State}
@@ -61,12 +61,16 @@ listing_of walk = record { frames = map (λ (place : Place). place.frame) walk.p
 abbrev pub initial_state : ThreadState → State
 initial_state thread = record { pc = thread.pc; sp = thread.regs.sp; fp = Known thread.regs.fp; lr = thread.regs.lr; returned = false }
 
--- a listing is another one; or that one stops at a value that can't be read, and its frames are the first ones of this listing
-abbrev pub GoesOnWhereUnread : (on once : Listing) → Type 0
-GoesOnWhereUnread on once =
-    (on ≡ once) ⊎ (((address : ℕ) × (once.stop ≡ Unreadable address)) × ((more : List Frame) × (on.frames ≡ once.frames ++ more)))
+-- Why a walk goes on where another one stops: at a value that can't be read, or with no mask at a return address that is in the address space.
+abbrev pub GoesPast : (mask : Option ℕ) → Stop → Type 0
+GoesPast mask stop =
+    ((address : ℕ) × (stop ≡ Unreadable address)) ⊎ ((address : ℕ) × ((stop ≡ Signed address) × ((mask ≡ None) × (address < 2 ^ 48))))
 
--- the walk of a thread from its state is `look_up_walk`, and goes on where that stops at a value that can't be read
-abbrev pub GoesOnPastFramePointers : Type 0
-GoesOnPastFramePointers = (look_up : LookUp) (thread : ThreadState) (memory : List Region) (depth : ℕ)
-    → GoesOnWhereUnread (listing_of (walk_on (stepping look_up thread.mask memory) depth (initial_state thread))) (look_up_walk look_up thread memory depth)
+-- a listing is another one; or it goes on where that one stops, so the frames of that one are its first
+abbrev pub GoesOnBeside : (mask : Option ℕ) → (on once : Listing) → Type 0
+GoesOnBeside mask on once = (on ≡ once) ⊎ (GoesPast mask once.stop × ((more : List Frame) × (on.frames ≡ once.frames ++ more)))
+
+-- the walk of a thread from its state is `look_up_walk`, and goes on where that stops at such a value
+abbrev pub GoesOnPastStops : Type 0
+GoesOnPastStops = (look_up : LookUp) (thread : ThreadState) (memory : List Region) (depth : ℕ)
+    → GoesOnBeside thread.mask (listing_of (walk_on (stepping look_up thread.mask memory) depth (initial_state thread))) (look_up_walk look_up thread memory depth)

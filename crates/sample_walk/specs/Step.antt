@@ -1,9 +1,8 @@
 -- One step of a walk that goes on where a caller's frame pointer can't be read (GNU SFrame specification, Version 2, frame row
 -- entries). Such a frame pointer is unknown. A row that counts from the stack pointer doesn't need it; at a row that counts from it
 -- the walk stops, with the address where it was to be read.
-use Rattle.std.specs.Prelude.{ℕ, ℤ, negsuc, Bool, true, false, List, Option, Some, None, Result, Ok, Err, bit_and}
+use Rattle.std.specs.Prelude.{ℕ, ℤ, negsuc, Bool, true, false, List, Option, Some, None, Result, Ok, Err}
 use Rattle.std.specs.Option.{option_map}
-use Rattle.std.specs.Int.{w64, bit_not}
 use Rattle.sf_model.specs.declared.content.Content.{Content}
 use Rattle.sf_model.specs.declared.content.Ra.{Ra}
 use Rattle.sf_model.specs.declared.content.Ra.TheVariants.{Fixed, Link, At}
@@ -20,6 +19,7 @@ use Rattle.sample_walk.specs.declared.rule.Rule.{Rule}
 use Rattle.sample_walk.specs.declared.state.State.{State}
 use Rattle.sample_walk.specs.declared.state.Value.{Value}
 use Rattle.sample_walk.specs.declared.state.Value.TheVariants.{Known}
+use Rattle.sample_walk.specs.Signature.{unsigned_by}
 
 -- the address at which a row is looked up: the program counter, or the address before it if a call returns there
 abbrev pub asked_by : (returned : Bool) → (pc : ℕ) → ℕ
@@ -61,12 +61,6 @@ base_register Sp at = Known at.sp
 -- the link register's value
 abbrev pub lr_of : State → Value
 lr_of at = Known at.lr
-
--- a return address without its signature; none if it is signed, and its bits that hold the signature are not known
-abbrev pub unsigned_by : (signed : Bool) → (mask : Option ℕ) → ℕ → Option ℕ
-unsigned_by false mask address = Some address
-unsigned_by true None address = None
-unsigned_by true (Some mask) address = Some (bit_and address (bit_not w64 mask))
 
 -- the caller, given its return address without the signature
 abbrev pub by_address : (frame_address : ℕ) → (frame_pointer : Value) → (return_address : ℕ) → (unsigned : Option ℕ) → Result State Stop

@@ -7,7 +7,8 @@ pub fn goes_on_from_its_state()
     ensures { spec.GoesOnFromItsState }
 {}
 
-/// A walk lists what `look_up_walk` of `sf_model` lists, and goes on where that stops at a value that can't be read.
-pub fn goes_on_past_frame_pointers()
-    ensures { spec.GoesOnPastFramePointers }
+/// A walk lists what `look_up_walk` of `sf_model` lists, and goes on where that stops at a value that can't be read, or without a
+/// mask at a return address in the address space.
+pub fn goes_on_past_stops()
+    ensures { spec.GoesOnPastStops }
 {}

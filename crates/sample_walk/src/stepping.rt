@@ -4,6 +4,7 @@ ghost use Rattle.std.specs.Prelude.{◌≡◌};
 ghost use Rattle.sample_walk.specs.Step as spec;
 
 use crate::rule::Rule;
+use crate::signature::unsigned_by;
 use crate::state::{State, Value};
 use sf_model::{Base, Frame, Memory, Stop, moved};
 
@@ -34,17 +35,6 @@ fn base_of(base: Base, at: &State) -> Value
     match base {
         Base::Fp => at.fp,
         Base::Sp => Value::Known(at.sp),
-    }
-}
-
-// Returns a return address without its signature, or none if it is signed and there is no mask.
-fn unsigned_by(signed: bool, mask: Option<u64>, address: u64) -> Option<u64>
-    ensures { result ≡ spec.unsigned_by signed mask address }
-{
-    match (signed, mask) {
-        (false, _) => Some(address),
-        (true, None) => None,
-        (true, Some(mask)) => Some(address & !mask),
     }
 }
 
