@@ -6,6 +6,8 @@ Prints what was wrong, and a line with the counts. `.ci/c-library` runs it. The 
 tried if KIBLAWEN_LINK_LIBRARY names its library.
 """
 
+import array
+import itertools
 import os
 import re
 import shutil
@@ -13,6 +15,7 @@ import struct
 import subprocess
 import sys
 import tempfile
+import threading
 
 import kiblawen
 from kiblawen import Base, Fault, Frame, Key, Module, Modules, Refused, Sample, Section, State, Stop
@@ -80,6 +83,10 @@ def try_made():
     check("modules", modules.walk(SAMPLE) == (FRAMES, Stop.OUTSIDE, 2**64 - 1))
     check("a module without a section", modules.walk(SAMPLE._replace(pc=0x2000)) == ([Frame(0x2000, 0)], Stop.OUTSIDE, 0x2000))
     try_walking_on(section)
+    try_numbers(section)
+    try_contents(section)
+    try_growing(section)
+    try_order(section)
     check("no modules", Modules([]).walk(SAMPLE) == ([Frame(0x1004, 0)], Stop.OUTSIDE, 0x1004))
     try:
         Modules([Module(0x1000, 0x1001, section), Module(0x2000, 1, section)])
@@ -105,6 +112,90 @@ def try_walking_on(section):
     unknown = State(0x1005, 0x7010, 0x7000, 0x1005, True, True)
     check("an unknown frame pointer", modules.walk_on(ending) == ([(0x1001, 0x7010, module), (0x1005, 0, module)], Stop.UNREADABLE, 0x7000, unknown))
     check("no modules to walk on in", Modules([]).walk_on(SAMPLE).frames == [(0x1004, 0, None)])
+
+
+def answer(call, *words, **named):
+    """What a call returns, or the type of what it raises."""
+    try:
+        return call(*words, **named)
+    except (ArithmeticError, BufferError, TypeError, ValueError) as error:
+        return type(error)
+
+
+def try_numbers(section):
+    """Each argument that is a number, at the ends of its range and beyond them."""
+    modules = Modules([Module(0x1000, 0x1000, section)])
+    walks = {"walk": section.walk, "walk of modules": modules.walk, "walk_on": modules.walk_on}
+    for what, walk in walks.items():
+        for room in (-1, -2, -(2**31), -(2**63), -(2**64), 2**60, 2**63, 2**64):
+            check(f"{what} with room {room}", answer(walk, SAMPLE, room=room) is ValueError)
+        check(f"{what} with room 0", walk(SAMPLE, room=0).frames == [])
+        for field in ("pc", "sp", "fp", "lr", "mask", "stack_start"):
+            for number in (0, 1, 2**63, 2**64 - 1):
+                check(f"{what} with {field} {number:#x}", isinstance(answer(walk, SAMPLE._replace(**{field: number})), tuple))
+            for number in (-1, -(2**63), 2**64, 2**65 + 0x1004):
+                check(f"{what} with {field} {number:#x}", answer(walk, SAMPLE._replace(**{field: number})) is ValueError)
+    for number in (-1, 2**64, 2**64 + 0x1004):
+        check(f"find at {number:#x}", answer(section.find, number) is ValueError)
+        check(f"recover at {number:#x}", answer(section.recover, SAMPLE._replace(pc=number)) is ValueError)
+        check(f"a section at {number:#x}", answer(Section, PUSHING, number) is ValueError)
+        check(f"a module at {number:#x}", answer(Modules, [Module(number, 1, section)]) is ValueError)
+        check(f"a module of {number:#x} bytes", answer(Modules, [Module(1, number, section)]) is ValueError)
+        for field in ("pc", "sp", "fp", "lr"):
+            state = State(0x1004, 0x6FF0, 0x7000)._replace(**{field: number})
+            check(f"a state with {field} {number:#x}", answer(modules.walk_on, SAMPLE, state) is ValueError)
+        if "KIBLAWEN_LINK_LIBRARY" in os.environ:
+            check(f"a file loaded at {number:#x}", answer(kiblawen.link, "/bin/sh", number) is ValueError)
+    check("a module at the last address", Modules([Module(2**64 - 1, 1, section)]).walk(SAMPLE._replace(pc=2**64 - 1)).frames == [Frame(2**64 - 1, 0)])
+
+
+def try_contents(section):
+    """The same bytes as each kind of object that has bytes, and objects that have none."""
+
+    def kinds(content):
+        yield from (content, bytearray(content), memoryview(content), array.array("B", content), memoryview(bytes(2 * len(content)))[::2])
+        for code in "HIQ":
+            padded = content + bytes(-len(content) % 8)
+            yield from (array.array(code, padded), memoryview(array.array(code, padded)), memoryview(padded).cast(code))
+
+    def named(content):
+        return f"{type(content).__name__} of {memoryview(content).format}"
+
+    walk = section.walk(SAMPLE)
+    for stack in kinds(STACK):
+        expected = walk if bytes(stack) == STACK else section.walk(SAMPLE._replace(stack=bytes(len(STACK))))
+        check(f"a stack as {named(stack)}", section.walk(SAMPLE._replace(stack=stack)) == expected)
+    for content in kinds(PUSHING):
+        check(f"a section as {named(content)}", refusal(content, 0x3000) == refusal(bytes(content), 0x3000))
+    for content, error in ((0, ValueError), (64, ValueError), (-1, ValueError), (None, TypeError), ("text", TypeError)):
+        check(f"a stack that is {content!r}", answer(section.walk, SAMPLE._replace(stack=content)) is error)
+        check(f"a section that is {content!r}", answer(Section, content, 0) is error)
+
+
+def try_growing(section):
+    """A stack that another thread makes longer and shorter meanwhile: each walk is that of the one or the other."""
+    stack, is_over = bytearray(STACK), threading.Event()
+
+    def change():
+        while not is_over.is_set():
+            stack.extend(bytes(1 << 16))
+            del stack[len(STACK) :]
+
+    interval, thread = sys.getswitchinterval(), threading.Thread(target=change)
+    sys.setswitchinterval(1e-6)
+    thread.start()
+    walks = [section.walk(SAMPLE._replace(stack=stack)) for _ in range(2000)]
+    is_over.set()
+    thread.join()
+    sys.setswitchinterval(interval)
+    check("a stack that grows", all(walk == (FRAMES, Stop.OUTSIDE, 2**64 - 1) for walk in walks))
+
+
+def try_order(section):
+    """Empty modules that share a start, in each order."""
+    for modules in itertools.permutations([Module(0x1000, 0x1000, section), Module(0x1000, 0, None), Module(0x1000, 0, None)]):
+        found = answer(Modules, modules)
+        check("empty modules", isinstance(found, Modules) and found.walk(SAMPLE).frames == FRAMES and found.walk_on(SAMPLE).frames[0].module.size == 0x1000)
 
 
 def read_core(path):

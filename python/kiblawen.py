@@ -21,6 +21,7 @@ import enum
 import functools
 import os
 import struct
+import sys
 import threading
 
 __all__ = [
@@ -130,7 +131,8 @@ State = collections.namedtuple("State", "pc sp fp lr fp_unknown returned", defau
 WalkOn = collections.namedtuple("WalkOn", "frames stop value state")
 # A file of a process: its addresses, and its section or None.
 Module = collections.namedtuple("Module", "start size section")
-# A stopped thread. `stack` is a copy of its stack from `stack_start` on, or from `sp` on if that is None. `mask` is None if it isn't known.
+# A stopped thread. `stack` is a copy of its stack, any object with bytes, from `stack_start` on, or from `sp` on if that is None. `mask` is
+# None if it isn't known.
 Sample = collections.namedtuple("Sample", "pc sp fp stack stack_start lr mask", defaults=(b"", None, 0, None))
 
 
@@ -203,20 +205,39 @@ def _link_library():
     return _load(LINK_NAME, "KIBLAWEN_LINK_LIBRARY", _LINK_CALLS)
 
 
+def _u64_of(number):
+    """An address or a size. ctypes takes what doesn't fit, and cuts it off."""
+    if not 0 <= number < 1 << 64:
+        raise ValueError(f"{number:#x} doesn't fit 64 bits")
+    return number
+
+
+def _frames(kind, room):
+    """An array of as many frames as there is room for, and of one if there is none, since C gets no null pointer."""
+    if not 0 <= room <= sys.maxsize // ctypes.sizeof(kind):
+        raise ValueError(f"there can't be room for {room} frames")
+    return (kind * max(room, 1))()
+
+
 def _copy(content):
-    """A copy of some bytes that C can read, which is never null."""
-    return (ctypes.c_uint8 * (len(content) + 1)).from_buffer_copy(bytes(content) + b"\0")
+    """A copy of some bytes that C can read, which is never null, and their number. The content is read once: another thread may change it."""
+    if isinstance(content, int):
+        raise ValueError("a number has no bytes")
+    taken = bytes(content)
+    return (ctypes.c_uint8 * (len(taken) + 1)).from_buffer_copy(taken + b"\0"), len(taken)
 
 
 def _sample(given):
     """A sample as C has it. It refers to the copy of the stack, which ctypes keeps."""
     start = given.sp if given.stack_start is None else given.stack_start
-    copy = ctypes.cast(_copy(given.stack), _bytes)
-    return _Sample(given.pc, given.sp, given.fp, given.lr, given.mask or 0, given.mask is not None, copy, len(given.stack), start)
+    copy, length = _copy(given.stack)
+    has_mask, mask = given.mask is not None, 0 if given.mask is None else given.mask
+    pc, sp, fp, lr, mask, start = map(_u64_of, (given.pc, given.sp, given.fp, given.lr, mask, start))
+    return _Sample(pc, sp, fp, lr, mask, has_mask, ctypes.cast(copy, _bytes), length, start)
 
 
 def _walk(call, sample, room):
-    frames, stop = (_Frame * max(room, 1))(), _Stop()
+    frames, stop = _frames(_Frame, room), _Stop()
     count = call(ctypes.byref(_sample(sample)), frames, room, ctypes.byref(stop))
     return Walk([Frame(it.pc, it.cfa) for it in frames[:count]], Stop(stop.kind), stop.value)
 
@@ -226,9 +247,9 @@ class Section:
 
     def __init__(self, content, at):
         """Opens the bytes of a section that is at this address, or would be. Raises Refused with the first fault."""
-        self._copy, place = _copy(content), _u64()
+        (self._copy, length), place = _copy(content), _u64()
         self._section = _Section(self._copy, 0, 0, False)
-        fault = _library.kiblawen_open(ctypes.byref(self._section), self._copy, len(content), at, ctypes.byref(place))
+        fault = _library.kiblawen_open(ctypes.byref(self._section), self._copy, length, _u64_of(at), ctypes.byref(place))
         if fault:
             raise Refused(Fault(fault), place.value)
         # What `link` printed of the file.
@@ -251,7 +272,7 @@ class Section:
     def find(self, pc):
         """Returns the function and row that hold at an address, or None."""
         it = _Row()
-        if not _library.kiblawen_find(ctypes.byref(self._section), pc, ctypes.byref(it)):
+        if not _library.kiblawen_find(ctypes.byref(self._section), _u64_of(pc), ctypes.byref(it)):
             return None
         ra, fp = it.ra_offset if it.ra_saved else None, it.fp_offset if it.fp_saved else None
         return Row(it.function_start, it.function_size, it.block_size, it.row_start, Base(it.base), it.cfa_offset, ra, fp, Key(it.key))
@@ -273,10 +294,10 @@ class Modules:
 
     def __init__(self, modules):
         """Takes modules in any order. Raises ValueError if two overlap."""
-        self._kept = sorted(modules, key=lambda it: it.start)
-        self._nothing = _copy(b"")
+        self._kept = sorted(modules, key=lambda it: (it.start, it.size))
+        self._nothing, _ = _copy(b"")
         closed = _Section(self._nothing, 0, 0, False)
-        found = [_Module(it.start, it.size, it.section._section if it.section else closed) for it in self._kept]
+        found = [_Module(_u64_of(it.start), _u64_of(it.size), it.section._section if it.section else closed) for it in self._kept]
         self._modules, self._count = (_Module * max(len(found), 1))(*found), len(found)
         order = (_size * max(len(found), 1))()
         if not _library.kiblawen_in_order(self._modules, self._count) or not _library.kiblawen_index(self._modules, self._count, order, self._count):
@@ -293,7 +314,7 @@ class Modules:
             self._own.cache = (_Cache * ENTRIES)()
             _library.kiblawen_cache_clear(self._own.cache, ENTRIES)
         given = state or State(sample.pc, sample.sp, sample.fp, sample.lr)
-        at, frames, stop = _State(*given), (_ModuleFrame * max(room, 1))(), _Stop()
+        at, frames, stop = _State(*map(_u64_of, given[:4]), *map(bool, given[4:])), _frames(_ModuleFrame, room), _Stop()
         count = _library.kiblawen_walk_on(
             ctypes.byref(self._indexed), self._own.cache, ENTRIES, ctypes.byref(_sample(sample)), ctypes.byref(at), frames, room, ctypes.byref(stop)
         )
@@ -334,7 +355,7 @@ class _Room:
 
     def call(self, command, content, at, linked):
         section, omitted, plts = self.counts
-        words = [ctypes.byref(_Input(content, len(content), 0, 0)), 1, at, self.section, section, self.omitted, omitted]
+        words = [ctypes.byref(_Input(content, len(content), 0, 0)), 1, _u64_of(at), self.section, section, self.omitted, omitted]
         words += [self.plts, plts] if command == "linkplt" else []
         return Answer(getattr(_link_library(), f"kiblawen_{command}")(*words, ctypes.byref(linked)))
 
@@ -350,7 +371,7 @@ def link(path, load=0, command="link"):
     The section's `report` is what `sf_tool link` prints. With the command `linkplt` plain lazy .plts have rows as well. Raises NotMade if the
     file is refused.
     """
-    at = _page_after(path)
+    at, load = _page_after(path), _u64_of(load)
     with open(path, "rb") as file:
         content = file.read()
     # The first call says how much room is needed, where this isn't enough.
@@ -361,7 +382,7 @@ def link(path, load=0, command="link"):
         answer = room.call(command, content, at, linked)
     if answer != Answer.MADE:
         raise NotMade(path, answer, linked.why.group, linked.why.number)
-    section = Section(bytes(room.section[: linked.len]), load + at)
+    section = Section(bytes(room.section[: linked.len]), (load + at) % (1 << 64))
     section.report = room.report(linked, command)
     return section
 
