@@ -207,6 +207,18 @@ static void indexing(void)
     CHECK(!kiblawen_index(two, 2, room, 2) && room[0] == 1 && room[1] == 0);
     two[1].start = UINT64_MAX - 5;
     CHECK(kiblawen_index(two, 2, room, 2) && room[0] == 0 && room[1] == 1);
+    /* Empty modules in each order: where another module starts, where it ends, and within it. */
+    for (size_t i = 0; i < 3; i++) {
+        struct kiblawen_module three[3] = {{5, 0, KIBLAWEN_CLOSED}, {5, 0, KIBLAWEN_CLOSED}, {5, 0, KIBLAWEN_CLOSED}};
+        three[i].size = 10;
+        CHECK(kiblawen_index(three, 3, room, 3) && room[2] == i);
+        three[(i + 1) % 3].start = 15;
+        CHECK(kiblawen_index(three, 3, room, 3) && room[1] == i && room[2] == (i + 1) % 3);
+        three[(i + 1) % 3].start = 14;
+        CHECK(!kiblawen_index(three, 3, room, 3));
+        three[(i + 1) % 3] = (struct kiblawen_module){5, 1, KIBLAWEN_CLOSED};
+        CHECK(!kiblawen_index(three, 3, room, 3));
+    }
     for (size_t i = 0; i < MANY; i++)
         many[i] = (struct kiblawen_module){0x1000 * (1 + i * 377 % MANY), 0x1000, KIBLAWEN_CLOSED};
     CHECK(kiblawen_index(many, MANY, places, MANY));

@@ -241,10 +241,11 @@ struct kiblawen_modules {
 };
 
 /*
- * Writes the indices of modules to `order`, in the order in which the modules start, and returns whether each ends where
- * the next one starts, or before: then `order` is an index of these modules. With another number of places than of
- * modules it returns false. That it then writes nothing is tested. It sorts: it takes n log n comparisons, and calls
- * itself at most 2 log n deep, which is not part of the proof.
+ * Writes the indices of modules to `order`, in the order in which the modules start, an empty one before another that
+ * starts at the same address. Returns whether no two modules overlap: then `order` is an index of these modules. An empty
+ * module overlaps one that begins before it and ends after it. With another number of places than of modules it returns
+ * false. That it then writes nothing is tested. It sorts: it takes n log n comparisons, and calls itself at most 2 log n
+ * deep, which is not part of the proof.
  */
 bool kiblawen_index(const struct kiblawen_module *modules, size_t count, size_t *order,
                     size_t order_count) KIBLAWEN_NONNULL;

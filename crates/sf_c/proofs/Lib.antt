@@ -3,3 +3,4 @@ pub mod Listed
 pub mod Reached
 pub mod Longest
 pub mod Ordered
+pub mod Apart

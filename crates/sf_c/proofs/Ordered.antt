@@ -1,14 +1,15 @@
 -- The module that has an address, by an index of modules in any order.
-use Rattle.std.specs.Prelude.{nat_le}
+use Rattle.std.specs.Prelude.{◌==◌, nat_le, if◌then◌else◌}
 use Rattle.std.specs.List.{Contains, find, position_or_len, slice_get}
 use Rattle.std.specs.List.Sorted.{IsNonDecreasingBy, IsPartitionPoint, IsPartitionedBy, IsPermutation}
-use Rattle.std.proofs.Common.{◌≡◌, ℕ, zero, suc, ◌+◌, ◌-◌, ◌<◌, ◌≤◌, Bool, true, false, List, [], ◌∷◌, length, get_or, Option, Some, None, refl, sym, ap, subst, ◌∙◌, arith, ◌⊎◌, inl, inr, leb-true}
+use Rattle.std.proofs.Common.{◌≡◌, ℕ, zero, suc, ◌+◌, ◌*◌, ◌-◌, ◌<◌, ◌≤◌, Bool, true, false, List, [], ◌∷◌, length, get_or, Option, Some, None, refl, sym, ap, subst, ◌∙◌, arith, ◌⊎◌, inl, inr, leb-true}
 use Rattle.std.proofs.Math.Logic.{∥∥₁_elim}
 use Rattle.std.proofs.Props.{props}
-use Rattle.std.proofs.lemmas.Bool.{cases_lt}
+use Rattle.std.proofs.lemmas.Bool.{cases_lt, eq-eqb, eqb-false, eqb-true, ne_eqb}
 use Rattle.std.proofs.lemmas.List.{get_or_default}
 use Rattle.std.proofs.lemmas.List.Sorted.{All-permutation, Contains-permutation, IsPartitionedBy-leb}
 use Rattle.std.proofs.lemmas.List.Sums.{position_or_len_is}
+use Rattle.std.proofs.lemmas.Map.Keys.{IsDistinct-IsPermutation, IsDistinct-from_apart}
 use Rattle.sf_model.specs.Lookup.{found_at}
 use Rattle.sample_walk.specs.declared.rule.Rule.{Rule}
 use Rattle.sample_walk.specs.Cache.{located_by}
@@ -16,7 +17,7 @@ use Rattle.sample_walk.specs.Step.{rules_by}
 use Rattle.sf_c.specs.declared.modules.KiblawenModule.{KiblawenModule}
 use Rattle.sf_c.specs.Modules.{functions_if_found, module_contains, module_row}
 use Rattle.sf_c.specs.Section.{section_row}
-use Rattle.sf_c.specs.Order.{AreByStart, IsIndex, index_in, size_in, module_start}
+use Rattle.sf_c.specs.Order.{AreByStart, Differ, IsIndex, index_in, size_in, module_start, order_key}
 use Rattle.sf_c.proofs.Reached.{ends_by, starts_after}
 
 -- ---- modules by their indices
@@ -48,13 +49,57 @@ size_got modules k m lt is = ap (λ (x : KiblawenModule). x.size) is ∙ size_is
 
 -- ---- the indices, put in order
 pub put_by_start : (modules : List KiblawenModule) (order new : List ℕ) → length order ≡ length modules → ((k d : ℕ) → k < length order → get_or order k d ≡ k) → IsPermutation order new → length new ≡ length order
-    → IsNonDecreasingBy (module_start modules) new → AreByStart modules new
+    → IsNonDecreasingBy (order_key modules) new → AreByStart modules new
 put_by_start modules order new many itself moved len rise = record {
   rise = rise;
   each = All-permutation (λ (k : ℕ). k < length modules) order new moved (λ k d lt. let same = itself k d lt in omega (same, lt, many, arith));
   all = λ k lt. Contains-permutation order new k moved (k, omega (lt, many, arith), itself k k (omega (lt, many, arith)));
   as_many = len ∙ many;
 }
+
+pub differ_put : (order new : List ℕ) → ((k d : ℕ) → k < length order → get_or order k d ≡ k) → IsPermutation order new → Differ new
+differ_put order new itself moved =
+    IsDistinct-IsPermutation (λ (i : ℕ) (j : ℕ). i == j) flips order new moved
+    (IsDistinct-from_apart (λ (i : ℕ) (j : ℕ). i == j) order
+    (λ i j d lt within.
+    let one = itself i d (omega (lt, within, arith)) in
+    let other = itself j d within in
+    ne_eqb (get_or order i d) (get_or order j d) (λ same. omega (one, other, same, lt, arith))))
+  where
+    by : (i j : ℕ) (b : Bool) → (i == j) ≡ b → (i == j) ≡ (j == i)
+    by i j true e = e ∙ sym (eq-eqb j i (sym (eqb-true i j e)))
+    by i j false e = e ∙ sym (ne_eqb j i (λ same. eqb-false i j e (sym same)))
+
+    flips : (i j : ℕ) → (i == j) ≡ (j == i)
+    flips i j = by i j (i == j) refl
+
+-- ---- keys
+at_most_one : (b : Bool) → (if b then 0 else 1) ≤ 1
+at_most_one true = omega arith
+at_most_one false = omega arith
+
+pub key_least : (modules : List KiblawenModule) (k : ℕ) → 2 * module_start modules k ≤ order_key modules k
+key_least modules k = omega arith
+
+pub key_most : (modules : List KiblawenModule) (k : ℕ) → order_key modules k ≤ 2 * module_start modules k + 1
+key_most modules k = let small = at_most_one (size_in modules k == 0) in omega (small, arith)
+
+pub key_of_empty : (modules : List KiblawenModule) (k : ℕ) → size_in modules k ≡ 0 → order_key modules k ≡ 2 * module_start modules k
+key_of_empty modules k e = rw e (omega arith)
+
+pub empty_by_key : (modules : List KiblawenModule) (k : ℕ) → order_key modules k ≤ 2 * module_start modules k → size_in modules k ≡ 0
+empty_by_key modules k = by (size_in modules k == 0) refl
+  where
+    by : (b : Bool) → (size_in modules k == 0) ≡ b → 2 * module_start modules k + (if b then 0 else 1) ≤ 2 * module_start modules k → size_in modules k ≡ 0
+    by true e le = eqb-true (size_in modules k) 0 e
+    by false e le = absurd (omega (le, arith))
+
+starts_rise : (modules : List KiblawenModule) (order : List ℕ) → AreByStart modules order → IsNonDecreasingBy (module_start modules) order
+starts_rise modules order by_start i j d le within =
+    let rise = by_start.rise i j d le within in
+    let least = key_least modules (get_or order i d) in
+    let most = key_most modules (get_or order j d) in
+    omega (rise, least, most, arith)
 
 -- ---- the search
 -- what follows from an index, where it is only known that there is one
@@ -66,7 +111,7 @@ abbrev pub Reaches : List KiblawenModule → (order : List ℕ) → (address rea
 Reaches modules order address reached = IsPartitionPoint (λ (k : ℕ). nat_le (module_start modules k) address ≡ true) (λ (k : ℕ). nat_le (module_start modules k) address ≡ false) order reached
 
 pub starts_parted : (modules : List KiblawenModule) (order : List ℕ) (address : ℕ) → IsIndex modules order → IsPartitionedBy (λ (k : ℕ). nat_le (module_start modules k) address) order
-starts_parted modules order address index = IsPartitionedBy-leb (module_start modules) order address index.0.rise
+starts_parted modules order address index = IsPartitionedBy-leb (module_start modules) order address (starts_rise modules order index.0)
 
 -- a module that starts after the address, or ends by it, does not have it
 after_fails : (modules : List KiblawenModule) (address k : ℕ) (d : KiblawenModule) → k < length modules → nat_le (module_start modules k) address ≡ false → module_contains address (get_or modules k d) ≡ false
@@ -79,11 +124,11 @@ before_fails modules address k d lt le =
     ends_by address (get_or modules k d) (omega (start, size, le, arith))
 
 -- a module ends where a later one in order starts, or before
-ends_before : (modules : List KiblawenModule) (order : List ℕ) → IsIndex modules order → (i j d : ℕ) → i < j → j < length order
+pub ends_before : (modules : List KiblawenModule) (order : List ℕ) → IsIndex modules order → (i j d : ℕ) → i < j → j < length order
     → module_start modules (get_or order i d) + size_in modules (get_or order i d) ≤ module_start modules (get_or order j d)
 ends_before modules order index i j d lt within =
     let one = index.1 i d (omega (lt, within, arith)) in
-    let on = index.0.rise (i + 1) j d (omega (lt, arith)) within in
+    let on = starts_rise modules order index.0 (i + 1) j d (omega (lt, arith)) within in
     omega (one, on, arith)
 
 -- no module starts by the address

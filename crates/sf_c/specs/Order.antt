@@ -1,6 +1,6 @@
 -- The modules of a process in the order of their addresses, by their indices in a list in any order.
-use Rattle.std.specs.Prelude.{◌≡◌, ◌+◌, ◌≤◌, ◌<◌, ℕ, zero, suc, List, [], ◌∷◌, All, length}
-use Rattle.std.specs.List.{AllAdjacentBelow, Contains, position_or_len}
+use Rattle.std.specs.Prelude.{◌≡◌, ◌==◌, ◌+◌, ◌*◌, ◌≤◌, ◌<◌, ℕ, zero, suc, List, [], ◌∷◌, All, length, if◌then◌else◌}
+use Rattle.std.specs.List.{AllAdjacentBelow, Contains, IsDistinct, position_or_len}
 use Rattle.std.specs.List.Sorted.{IsNonDecreasingBy}
 use Rattle.sf_c.specs.declared.modules.KiblawenModule.{KiblawenModule}
 use Rattle.sf_c.specs.Modules.{module_contains}
@@ -17,12 +17,25 @@ size_in [] index = 0
 size_in (m ∷ modules) zero = m.size
 size_in (m ∷ modules) (suc index) = size_in modules index
 
--- these are the indices of the modules, in the order in which the modules start
+-- no two modules overlap: of two, one ends where the other one starts, or before
+abbrev pub AreApart : List KiblawenModule → Type 0
+AreApart modules = (i j : ℕ) → i < j → j < length modules
+    → ¬ ((module_start modules i < module_start modules j + size_in modules j) × (module_start modules j < module_start modules i + size_in modules i))
+
+-- the order of modules: by their starts, and of an empty one before another that starts there
+abbrev pub order_key : List KiblawenModule → (index : ℕ) → ℕ
+order_key modules index = 2 * module_start modules index + (if size_in modules index == 0 then 0 else 1)
+
+-- these are the indices of the modules, in that order
 pub record AreByStart (modules : List KiblawenModule) (order : List ℕ) : Type 0 where
-  pub rise : IsNonDecreasingBy (module_start modules) order
+  pub rise : IsNonDecreasingBy (order_key modules) order
   pub each : All (λ (index : ℕ). index < length modules) order
   pub all : (index : ℕ) → index < length modules → Contains order index
   pub as_many : length order ≡ length modules
+
+-- Inside the crate: no index is there twice
+abbrev pub Differ : (order : List ℕ) → Type 0
+Differ order = IsDistinct (λ (i : ℕ) (j : ℕ). i == j) order
 
 -- each module ends where the next one in order starts, or before
 abbrev pub AreDisjoint : List KiblawenModule → (order : List ℕ) → Type 0

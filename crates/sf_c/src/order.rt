@@ -2,7 +2,7 @@
 
 ghost use Rattle.std.specs.Prelude.{◌≡◌, ◌↔◌, IsTrue, length};
 ghost use Rattle.sf_c.specs.Order as spec;
-ghost use Rattle.sf_c.specs.Order.{AreDisjoint, AreByStart};
+ghost use Rattle.sf_c.specs.Order.{AreApart, AreByStart, AreDisjoint, Differ};
 
 use crate::modules::KiblawenModule;
 
@@ -26,16 +26,29 @@ fn size_in(modules: &[KiblawenModule<'_>], index: usize) -> u64
     }
 }
 
-// Writes the indices of modules in the order in which the modules start.
+// Returns a number that grows with a module's start, and is less for an empty module than for another that starts there.
+fn key_in(modules: &[KiblawenModule<'_>], index: usize) -> u128
+    ensures { result ≡ spec.order_key modules.now index }
+{
+    let twice = 2 * u128::from(start_in(modules, index));
+    if size_in(modules, index) == 0 {
+        twice
+    } else {
+        twice + 1
+    }
+}
+
+// Writes the indices of modules in the order in which the modules start, of empty ones before others that start there.
 fn put_in_order(modules: &[KiblawenModule<'_>], order: &mut [usize])
     requires { length order.old ≡ length modules.now }
     ensures order { AreByStart modules.now order.new }
+    ensures differ { Differ order.new }
     ensures len { length order.new ≡ length order.old }
 {
     for index in 0..order.len() {
         order[index] = index;
     }
-    order.sort_unstable_by_key(|index| start_in(modules, *index));
+    order.sort_unstable_by_key(|index| key_in(modules, *index));
 }
 
 // Returns whether each module ends where the next one in order starts, or before.
@@ -53,13 +66,14 @@ fn are_apart(modules: &[KiblawenModule<'_>], order: &[usize]) -> bool
     true
 }
 
-/// Writes the indices of modules to `order`, in the order in which the modules start, and returns whether each ends
-/// where the next one starts, or before. For another number of places than of modules it returns false, and writes
-/// nothing.
+/// Writes the indices of modules to `order`, in the order in which the modules start, of empty ones before others that start
+/// there. Returns whether no two modules overlap. For another number of places than of modules it returns false, and
+/// writes nothing.
 #[unsafe(no_mangle)]
 pub extern "C" fn kiblawen_index(modules: &[KiblawenModule<'_>], order: &mut [usize]) -> bool
     ensures index { IsTrue result ↔ spec.IsIndex modules.now order.new }
     ensures order { length order.old ≡ length modules.now → AreByStart modules.now order.new }
+    ensures apart { length order.old ≡ length modules.now → (IsTrue result ↔ AreApart modules.now) }
 {
     if order.len() != modules.len() {
         return false;
