@@ -12,11 +12,12 @@
 #include <string.h>
 #include <time.h>
 #include <ucontext.h>
+#include <unistd.h>
 #include <unwind.h>
 
 #include "kiblawen-link.h"
 
-enum { MOST_MODULES = 256, MOST_FRAMES = 64, PAGE = 4096, PATH_ROOM = 4096 };
+enum { MOST_MODULES = 256, MOST_FRAMES = 64, PATH_ROOM = 4096 };
 
 static struct kiblawen_module modules[MOST_MODULES];
 static size_t module_count;
@@ -57,7 +58,7 @@ static void add_file(const char *path, uint64_t start, uint64_t offset)
     struct kiblawen_placed place;
     struct kiblawen_input input = {NULL, 0, 0, KIBLAWEN_ELF};
     uint8_t *bytes = read_file(path, &input.len);
-    if (bytes && kiblawen_place(bytes, input.len, PAGE, start, offset, &place) == KIBLAWEN_MADE && place.has_load) {
+    if (bytes && kiblawen_place(bytes, input.len, (uint64_t)sysconf(_SC_PAGESIZE), start, offset, &place) == KIBLAWEN_MADE && place.has_load) {
         struct kiblawen_module *module = &modules[module_count++];
         *module = (struct kiblawen_module){place.load + place.first, place.after - place.first, KIBLAWEN_CLOSED};
         input.bytes = bytes;

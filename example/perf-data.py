@@ -9,6 +9,7 @@ and how many walks of the library ended early, by why they stopped and in which 
 """
 
 import collections
+import os
 import re
 import struct
 import subprocess
@@ -47,11 +48,13 @@ def load_address(path, start, offset):
     except OSError:
         return None
     (place,), (entry, count) = struct.unpack_from("<Q", head, 32), struct.unpack_from("<HH", head, 54)
+    page, loads = os.sysconf("SC_PAGESIZE"), []
     for at in range(place, min(place + entry * count, len(head) - 55), entry):
         kind, flags, first, address, _, length, _, _ = struct.unpack_from("<IIQQQQQQ", head, at)
-        if kind == 1 and flags & 1 and first // 4096 * 4096 <= offset < first + length:
-            return start - (address - first + offset)
-    return None
+        if kind == 1 and flags & 1 and first // page * page <= offset < -(-(first + length) // page) * page:
+            loads.append((start - (address - first + offset)) % (1 << 64))
+    # Pages of several segments may have the byte at this offset. Then it isn't known which one is mapped.
+    return loads[0] if len(loads) == 1 else None
 
 
 def sample_of(sample_type, record):

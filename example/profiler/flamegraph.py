@@ -35,6 +35,11 @@ class Node:
         return 1 + max((it.depth() for it in self.calls.values()), default=0)
 
 
+def printable(text):
+    """A text with a question mark for each character that XML forbids or that isn't visible."""
+    return "".join(it if it.isprintable() else "?" for it in text)
+
+
 def colour(name):
     """A warm colour that only the name decides."""
     value = zlib.crc32(name.encode())
@@ -58,14 +63,17 @@ def boxes(node, name, x, level, scale, total, bottom):
 
 def main():
     root = Node()
+    # Names are bytes of a file's symbols. An SVG that names no encoding is UTF-8.
+    sys.stdin.reconfigure(encoding="utf-8", errors="replace", newline="\n")
+    sys.stdout.reconfigure(encoding="utf-8")
     for line in sys.stdin:
-        stack, _, count = line.strip().rpartition(" ")
-        if stack:
-            root.add(stack.split(";"), int(count))
+        stack, _, count = line.rstrip("\n").rpartition(" ")
+        if stack and count.isascii() and count.isdigit():
+            root.add(printable(stack).split(";"), int(count))
     if not root.count:
         sys.exit("flamegraph.py: there are no samples")
     height = TOP + root.depth() * HEIGHT + SIDE
-    title = html.escape(sys.argv[1] if len(sys.argv) > 1 else f"{root.count} samples")
+    title = html.escape(printable(sys.argv[1]) if len(sys.argv) > 1 else f"{root.count} samples")
     print(HEAD.format(width=WIDTH, height=height, middle=WIDTH // 2, title=title))
     scale = (WIDTH - 2 * SIDE) / root.count
     for box in boxes(root, "all", SIDE, 0, scale, root.count, height - SIDE - HEIGHT):

@@ -19,9 +19,9 @@ static void append(char **line, size_t *len, const char *text)
     if (*len > 0)
         longer[(*len)++] = ';';
     memcpy(longer + *len, text, more + 1);
-    /* A semicolon or a line feed within a name would end it. */
+    /* A semicolon or a line feed within a name would end it, and a terminal would obey other bytes below a blank. */
     for (size_t i = *len; i < *len + more; i++)
-        if (longer[i] == ';' || longer[i] == '\n')
+        if (longer[i] == ';' || (unsigned char)longer[i] < ' ' || longer[i] == 0x7f)
             longer[i] = ':';
     *len += more;
 }

@@ -18,7 +18,7 @@
 
 #include "profiler.h"
 
-enum { PAGE = 4096, STACK_BYTES = 32768, MOST_RECORD = 1 << 16 };
+enum { STACK_BYTES = 32768, MOST_RECORD = 1 << 16 };
 
 /* The registers of a sample come in the order of their numbers. */
 #if defined(__x86_64__)
@@ -79,7 +79,7 @@ static bool open_ring(struct ring *ring, pid_t thread, int processor, unsigned h
         return ioctl(event, PERF_EVENT_IOC_SET_OUTPUT, ring->event) == 0;
     /* Without the rights of root, a process may have 512 KiB and a page for each processor. */
     ring->size = geteuid() == 0 ? 1 << 24 : 1 << 19;
-    void *page = mmap(NULL, PAGE + ring->size, PROT_READ | PROT_WRITE, MAP_SHARED, event, 0);
+    void *page = mmap(NULL, page_size() + ring->size, PROT_READ | PROT_WRITE, MAP_SHARED, event, 0);
     ring->event = event;
     ring->page = page == MAP_FAILED ? NULL : page;
     return ring->page != NULL;
@@ -103,7 +103,7 @@ static bool open_all(struct ring *rings, int processors, pid_t pid, unsigned her
 /* Copies a record out of a ring, in which it may go on at the beginning. */
 static const struct perf_event_header *record_at(const struct ring *ring, uint64_t place, uint8_t *room)
 {
-    const uint8_t *bytes = (const uint8_t *)ring->page + PAGE;
+    const uint8_t *bytes = (const uint8_t *)ring->page + page_size();
     struct perf_event_header header;
     for (size_t i = 0; i < sizeof header; i++)
         ((uint8_t *)&header)[i] = bytes[(place + i) % ring->size];

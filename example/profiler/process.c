@@ -1,27 +1,42 @@
 /* The files that a process has mapped, and their tables, which are made here. */
 #define _GNU_SOURCE
 #include <elf.h>
+#include <fcntl.h>
 #include <stdio.h>
 #include <stdlib.h>
 #include <string.h>
 #include <sys/auxv.h>
 #include <sys/mman.h>
+#include <sys/stat.h>
 #include <unistd.h>
 
 #include "kiblawen-link.h"
 #include "profiler.h"
 
-enum { PAGE = 4096 };
+/* A process may have put anything where a file was: no more than this is read of it. */
+enum { MOST_BYTES = 1 << 28 };
 
-/* Reads a file. Its bytes are the caller's to free, or NULL. */
-static uint8_t *read_file(const char *path, size_t *len)
+uint64_t page_size(void)
 {
-    FILE *file = fopen(path, "rb");
-    long size = file && !fseek(file, 0, SEEK_END) ? ftell(file) : -1;
-    uint8_t *bytes = size > 0 ? malloc((size_t)size) : NULL;
-    *len = bytes && !fseek(file, 0, SEEK_SET) ? fread(bytes, 1, (size_t)size, file) : 0;
-    if (file)
-        fclose(file);
+    return (uint64_t)sysconf(_SC_PAGESIZE);
+}
+
+/* Reads a regular file. Its bytes are the caller's to free, or NULL. To open a FIFO doesn't wait for a writer. */
+uint8_t *read_file(const char *path, size_t *len)
+{
+    struct stat state;
+    int file = open(path, O_RDONLY | O_NONBLOCK | O_NOCTTY | O_CLOEXEC);
+    bool is_fit = file >= 0 && !fstat(file, &state) && S_ISREG(state.st_mode) && state.st_size > 0 && state.st_size <= MOST_BYTES;
+    size_t size = is_fit ? (size_t)state.st_size : 0;
+    uint8_t *bytes = is_fit ? malloc(size) : NULL;
+    ssize_t more = 1;
+    *len = 0;
+    while (bytes && *len < size && more > 0) {
+        more = read(file, bytes + *len, size - *len);
+        *len += more > 0 ? (size_t)more : 0;
+    }
+    if (file >= 0)
+        close(file);
     return bytes;
 }
 
@@ -33,11 +48,18 @@ static void index_files(struct process *process)
     kiblawen_cache_clear(process->cache, ENTRIES);
 }
 
-/* Returns the file whose addresses are among these, or NULL. */
-static struct file *file_among(struct process *process, uint64_t start, uint64_t size)
+/* Returns whether two ranges share an address. Their ends may be 2^64. */
+static bool share(uint64_t start, uint64_t size, uint64_t other, uint64_t other_size)
+{
+    return start - other < other_size || other - start < size;
+}
+
+/* Returns the file whose addresses are among these, or NULL; with a path, of the files that have it. */
+static struct file *file_among(struct process *process, uint64_t start, uint64_t size, const char *path)
 {
     for (size_t i = 0; i < process->count; i++)
-        if (process->modules[i].start < start + size && start < process->modules[i].start + process->modules[i].size)
+        if (share(start, size, process->modules[i].start, process->modules[i].size)
+            && (!path || !strcmp(process->files[i].path, path)))
             return &process->files[i];
     return NULL;
 }
@@ -48,18 +70,30 @@ static void remove_file(struct process *process, size_t at)
     size_t last = --process->count;
     kiblawen_close(&process->modules[at].section);
     free(process->files[at].table);
+    free(process->files[at].path);
+    free(process->files[at].symbols.list);
+    free(process->files[at].symbols.names);
     process->modules[at] = process->modules[last];
     process->files[at] = process->files[last];
 }
 
-/* Adds a file. Files that were at its addresses have been unmapped. */
-static void add_file(struct process *process, const char *path, uint64_t load, uint64_t start, uint64_t size)
+/*
+ * Adds a file. Other files that were at its addresses have been unmapped. One of its own path stays, and so does each file if its
+ * addresses would go on past the last one.
+ */
+static void add_file(struct process *process, const char *path, const struct kiblawen_placed *place)
 {
-    for (struct file *it; (it = file_among(process, start, size)) != NULL;)
+    uint64_t start = place->load + place->first, size = place->after - place->first;
+    char *copy = start <= UINT64_MAX - size && !file_among(process, start, size, path) ? strdup(path) : NULL;
+    if (!copy)
+        return;
+    for (struct file *it; (it = file_among(process, start, size, NULL)) != NULL;)
         remove_file(process, (size_t)(it - process->files));
     if (process->count < MOST_MODULES) {
         process->modules[process->count] = (struct kiblawen_module){start, size, KIBLAWEN_CLOSED};
-        process->files[process->count++] = (struct file){.path = strdup(path), .load = load};
+        process->files[process->count++] = (struct file){.path = copy, .load = place->load};
+    } else {
+        free(copy);
     }
     process->is_changed = true;
 }
@@ -79,21 +113,22 @@ static const char *vdso_path(void)
     return path;
 }
 
-/* Adds the file of an executable mapping, which begins at this offset of the file. */
+/* Adds the file of an executable mapping, which begins at this offset of the file, unless it was added by another mapping. */
 void add_mapping(struct process *process, uint64_t start, uint64_t offset, const char *path)
 {
-    const struct file *known = file_among(process, start, 1);
     struct kiblawen_placed place;
     size_t len;
     if (!strcmp(path, "[vdso]"))
         path = vdso_path();
-    if (*path != '/')
+    if (*path != '/' || file_among(process, start, 1, path))
         return;
     uint8_t *bytes = read_file(path, &len);
-    bool is_placed = bytes && kiblawen_place(bytes, len, PAGE, start, offset, &place) == KIBLAWEN_MADE && place.has_load;
+    bool is_read = bytes && kiblawen_place(bytes, len, page_size(), start, offset, &place) == KIBLAWEN_MADE;
     free(bytes);
-    if (is_placed && !(known && known->load == place.load && !strcmp(known->path, path)))
-        add_file(process, path, place.load, place.load + place.first, place.after - place.first);
+    if (is_read && place.has_load)
+        add_file(process, path, &place);
+    else if (is_read)
+        fprintf(stderr, "profiler: no table of %s: not exactly one of its segments can be at 0x%llx\n", path, (unsigned long long)start);
 }
 
 /* Adds the files that a process has mapped. */

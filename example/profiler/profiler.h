@@ -25,6 +25,7 @@ struct symbol {
 
 struct symbols {
     struct symbol *list;
+    char *names;
     size_t count;
     bool is_read;
 };
@@ -52,6 +53,8 @@ struct process {
 };
 
 /* process.c */
+uint64_t page_size(void);
+uint8_t *read_file(const char *path, size_t *len);
 void add_mapping(struct process *process, uint64_t start, uint64_t offset, const char *path);
 void read_maps(struct process *process);
 void open_tables(struct process *process);

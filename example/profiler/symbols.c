@@ -1,11 +1,7 @@
 /* Names of addresses, by a file's symbol table, or else by its dynamic one. */
 #include <elf.h>
-#include <fcntl.h>
 #include <stdlib.h>
 #include <string.h>
-#include <sys/mman.h>
-#include <sys/stat.h>
-#include <unistd.h>
 
 #include "profiler.h"
 
@@ -38,41 +34,42 @@ static const Elf64_Shdr *section_of(const uint8_t *bytes, size_t size, uint32_t 
     return NULL;
 }
 
-/* Takes the functions of a symbol table. */
+/* Takes the functions of a symbol table, and a copy of their names. */
 static void take(struct symbols *symbols, const uint8_t *bytes, const Elf64_Shdr *table)
 {
     const Elf64_Shdr *texts = (const Elf64_Shdr *)(bytes + ((const Elf64_Ehdr *)bytes)->e_shoff) + table->sh_link;
     const Elf64_Sym *list = (const Elf64_Sym *)(bytes + table->sh_offset);
     size_t count = table->sh_size / sizeof *list;
     symbols->list = calloc(count + 1, sizeof *symbols->list);
-    for (size_t i = 0; symbols->list && i < count; i++) {
+    symbols->names = malloc(texts->sh_size);
+    if (!symbols->list || !symbols->names)
+        return;
+    memcpy(symbols->names, bytes + texts->sh_offset, texts->sh_size);
+    for (size_t i = 0; i < count; i++) {
         int type = ELF64_ST_TYPE(list[i].st_info);
         if ((type == STT_FUNC || type == STT_GNU_IFUNC) && list[i].st_shndx != SHN_UNDEF && list[i].st_name < texts->sh_size)
-            symbols->list[symbols->count++] =
-                (struct symbol){list[i].st_value, list[i].st_size, (const char *)bytes + texts->sh_offset + list[i].st_name};
+            symbols->list[symbols->count++] = (struct symbol){list[i].st_value, list[i].st_size, symbols->names + list[i].st_name};
     }
     if (symbols->count)
         qsort(symbols->list, symbols->count, sizeof *symbols->list, by_start);
 }
 
-/* Reads the symbols of a file, once. The file stays mapped, since the names are in it. */
+/* Reads the symbols of a file, once. A file that stayed mapped could be truncated by its owner, which ends whoever reads it. */
 void read_symbols(struct symbols *symbols, const char *path)
 {
-    struct stat state;
-    int file = symbols->is_read ? -1 : open(path, O_RDONLY | O_CLOEXEC);
+    size_t size;
+    uint8_t *bytes = symbols->is_read ? NULL : read_file(path, &size);
     symbols->is_read = true;
-    if (file < 0)
+    if (!bytes)
         return;
-    size_t size = fstat(file, &state) ? 0 : (size_t)state.st_size;
-    const uint8_t *bytes = size < sizeof(Elf64_Ehdr) ? MAP_FAILED : mmap(NULL, size, PROT_READ, MAP_PRIVATE, file, 0);
-    close(file);
-    if (bytes == MAP_FAILED || memcmp(bytes, ELFMAG "\2\1", 6) != 0)
-        return;
-    const Elf64_Shdr *table = section_of(bytes, size, SHT_SYMTAB);
-    if (!table)
-        table = section_of(bytes, size, SHT_DYNSYM);
-    if (table)
-        take(symbols, bytes, table);
+    if (size >= sizeof(Elf64_Ehdr) && memcmp(bytes, ELFMAG "\2\1", 6) == 0) {
+        const Elf64_Shdr *table = section_of(bytes, size, SHT_SYMTAB);
+        if (!table)
+            table = section_of(bytes, size, SHT_DYNSYM);
+        if (table)
+            take(symbols, bytes, table);
+    }
+    free(bytes);
 }
 
 /* Returns the name of the function at an address, or NULL. */
