@@ -1,6 +1,7 @@
 #!/bin/sh
-# The steps of `./x demo`: builds the program, makes the section of a real library, shows what was kept and what it says, looks an
-# address up, links and merges freshly compiled objects, and walks core files. `./x demo --help` says what it needs.
+# The steps of `./x demo`: makes the section of a real library unproved, proves and builds the program, makes the section again, shows what
+# was kept and what it says, looks an address up, links and merges freshly compiled objects, and walks core files. `./x demo --help` says
+# what it needs.
 
 set -eu
 LC_ALL=C
@@ -37,16 +38,7 @@ out=demo/out
 rm -rf "$out"
 mkdir -p "$out"
 
-say '1. Build. The prover goes through all functions of the program, the C libraries and the crates that they stand on, and all are'
-say '   compiled. From nothing this took 41 minutes on four idle processors of 2.5 GHz, and 10 GB of disk; later runs begin'
-say '   with what is kept. A line for each crate:'
-./x build "$out/build.log" link "$PWD/$out/one.sframe@0x3000" "eh-amd64:$PWD/crates/sf_tool/data/e1@0x2000" ||
-    fail "the build failed: see $out/build.log"
-say "   The program is crates/sf_tool/out/sf_tool; the libraries are crates/sf_c/out/libsf_c.a and crates/sf_link_c/out/libkiblawen_link.a."
-say "   What the prover said is in $out/build.log."
-
 if [ -z "$file" ]; then
-    file=$PWD/crates/sf_tool/out/sf_tool
     for name in /lib/*-linux-gnu/libc.so.6 /lib64/libc.so.6 /usr/lib64/libc.so.6 /usr/lib/libc.so.6; do
         case $(readelf -h "$name" 2>/dev/null | awk '$1 == "Class:" || $1 == "Machine:"') in
         *ELF64*X86-64* | *ELF64*AArch64*)
@@ -111,27 +103,106 @@ show_walk() {
         }' "$out/gdb" || fail "gdb lists other frames: see $out/gdb"
 }
 
+# A report: its first lines, how many functions were kept, their share, and how often each reason occurs.
+show_report() {
+    awk '
+        $1 == "omit" && NR <= 3
+        $1 == "omit" { count[$11]++ }
+        $1 == "kept" {
+            kept = $2
+            omitted = $4
+            if (omitted > 3) print ".. and " omitted - 3 " such lines more"
+            print
+        }
+        END {
+            if (kept + omitted == 0) { print "   The file has no call frame information."; exit }
+            share = kept / (kept + omitted)
+            for (i = 0; i < 50; i++) bar = bar (i < int(share * 50) ? "#" : ".")
+            printf "   [%s] %.2f %% of the functions are kept\n", bar, 100 * share
+            for (reason in count) print "   omitted for " reason ": " count[reason]
+        }' "$1"
+}
+
+# A function of the file's symbols, printf if it has that one: its start, size and name.
+find_function() {
+    { nm -D -S --defined-only "$1" 2>/dev/null || :; nm -S --defined-only "$1" 2>/dev/null || :; } | awk '
+        $3 ~ /^[TW]$/ {
+            sub(/@.*/, "", $4)
+            size = $2
+            sub(/^0*/, "", size)
+            if ($4 == "printf" || first == "" && length(size) > 2) first = "0x" $1 " 0x" $2 " " $4
+            if ($4 == "printf") exit
+        }
+        END { print first }'
+}
+
+# The main job by `./x try`: the section of the file, and a look-up in the middle of a function.
+show_unproved() {
+    at=$(page_after "$file")
+    set -- link "$out/unproved@$at" "$file@0x0"
+    say "   \$ ./x try $*"
+    read -r start size name <<END
+$(find_function "$file")
+END
+    if [ -n "$name" ]; then
+        pc=$(printf '0x%x' $((start + size / 2)))
+        set -- "$@" -- lookup "$out/unproved@$at" "$pc"
+    fi
+    status=0
+    ./x try "$@" >"$out/printed" 2>"$out/said" || status=$?
+    case $status in
+    0 | 1) ;;
+    125)
+        tail -n 3 "$out/said"
+        say "   rt try does not run the program here, so this part is passed over."
+        return
+        ;;
+    *)
+        cat "$out/said"
+        fail 'the section was not linked'
+        ;;
+    esac
+    grep -E '^(omit|kept) ' "$out/printed" >"$out/report"
+    show_report "$out/report"
+    if [ -n "$name" ]; then
+        say "   \$ ./x try lookup $out/unproved@$at $pc        in the middle of $name"
+        grep -vE '^(omit|kept) ' "$out/printed"
+    fi
+    say "   This took $(($(date +%s) - began)) s. All of it is unproved: run-time checks found no fault in these two runs."
+}
+
+# Ctrl-C leaves nothing half made.
+ended() {
+    rm -rf "$out"
+    say
+    say "$1"
+    exit 130
+}
+
+say '1. The main job, unproved: the same sources, built with run-time checks, which takes about a minute. The section of a library:'
+trap 'ended "Ended. Nothing was proved. ./x try WORDS .. runs any command so; sh demo/run begins again."' INT
+began=$(date +%s)
+if [ -n "$file" ]; then
+    show_unproved
+else
+    say '   There is no C library for AMD64 or AArch64 here. A FILE can be named: sh demo/run FILE'
+fi
+
+say
+say '2. Proof and build. The prover goes through all functions of the program and of the crates that it stands on, and all are compiled.'
+say '   From nothing this took 41 minutes on four idle processors of 2.5 GHz, and 10 GB of disk. Each crate that is proved is kept: Ctrl-C'
+say '   ends here, later runs and the gate begin with what is kept, and ./x try runs any command unproved meanwhile. A line for each crate:'
+trap 'ended "Ended. Each crate that has a line above is kept: sh demo/run goes on from there."' INT
+./x build "$out/build.log" || fail "the build failed: see $out/build.log"
+trap - INT
+say "   The program is crates/sf_tool/out/sf_tool. What the prover said is in $out/build.log."
+file=${file:-$PWD/crates/sf_tool/out/sf_tool}
 at=$(page_after "$file")
 
 say
-say "2. The section of $file. Loaded at 0, it ends before $at, and there the section is to lie:"
+say "3. The section of $file, by the proved program. Loaded at 0, the file ends before $at, and there the section is to lie:"
 tool link "$out/sframe@$at" "$file@0x0" >"$out/report" || fail 'the section was not linked'
-awk '
-    $1 == "omit" && NR <= 3
-    $1 == "omit" { count[$11]++ }
-    $1 == "kept" {
-        kept = $2
-        omitted = $4
-        if (omitted > 3) print ".. and " omitted - 3 " such lines more"
-        print
-    }
-    END {
-        if (kept + omitted == 0) { print "   The file has no call frame information."; exit }
-        share = kept / (kept + omitted)
-        for (i = 0; i < 50; i++) bar = bar (i < int(share * 50) ? "#" : ".")
-        printf "   [%s] %.2f %% of the functions are kept\n", bar, 100 * share
-        for (reason in count) print "   omitted for " reason ": " count[reason]
-    }' "$out/report"
+show_report "$out/report"
 sizes=$(readelf -SW "$file" | sed 's/^ *\[ *[0-9]*\]//' | awk '$1 ~ /^\.eh_frame(_hdr)?$/ { print "0x" $5 }')
 frames=0
 for size in $sizes; do
@@ -142,7 +213,7 @@ say '   Is it right? At each address at which it has a row, both recover the sam
 tool verify "$out/sframe@$at" "$file@0x0" || fail 'the section differs from the file'
 
 say
-say '3. What the section says: its header, and a row for each range of each function'
+say '4. What the section says: its header, and a row for each range of each function'
 tool dump "$out/sframe@$at" >"$out/dump" || fail 'the section was not read'
 sed -n 1p "$out/dump"
 
@@ -186,7 +257,7 @@ END
 
     pc=$(printf '0x%x' $((start + offset)))
     say
-    say "4. Look-up of $pc, in the middle of the function $name, which has saved its frame pointer there"
+    say "5. Look-up of $pc, in the middle of the function $name, which has saved its frame pointer there"
     tool lookup "$out/sframe@$at" "$pc" || fail 'no row holds there'
     say "   cfa is the canonical frame address (CFA): what the stack pointer was before the call. fp is where the caller's frame"
     say '   pointer lies. The return address lies at CFA-8 on AMD64, and on AArch64 where ra says.'
@@ -202,7 +273,7 @@ for command in cc gcc clang; do
 done
 if [ -n "$compiler" ]; then
     say
-    say '5. A freshly compiled object, laid out from 0x1000 on: its relocations are applied'
+    say '6. A freshly compiled object, laid out from 0x1000 on: its relocations are applied'
     cat >"$out/object.c" <<'END'
 int leaf(int x) { return x + 1; }
 int caller(int x)
@@ -217,7 +288,7 @@ END
     tool dump "$out/object.sframe@0x10000" || fail 'its section was not read'
 
     say
-    say '6. Another object, linked in one run with the first, and the same by merging two sections'
+    say '7. Another object, linked in one run with the first, and the same by merging two sections'
     cat >"$out/other.c" <<'END'
 int other(int x)
 {
@@ -235,7 +306,7 @@ END
     tool slim "$out/slimmed@0x10000" "$out/merged@0x10000" || fail 'the section was not shortened'
 
     say
-    say '7. A program that aborts some calls deep: the stack in its core file, walked by its section'
+    say '8. A program that aborts some calls deep: the stack in its core file, walked by its section'
     cat >"$out/deep.c" <<'END'
 #include <stdlib.h>
 int sum;
@@ -267,7 +338,7 @@ END
     fi
 
     say
-    say '8. A process with three libraries: the stack in its core file, each frame by the table of its own file, which is made on the spot'
+    say '9. A process with three libraries: the stack in its core file, each frame by the table of its own file, which is made on the spot'
     echo 'int two(int n); int one(int n) { return two(n + 1) + 1; }' >"$out/one.c"
     echo 'int three(int n); int two(int n) { return three(n + 1) + 1; }' >"$out/two.c"
     echo 'int three(int n) { if (n > 0) __builtin_trap(); return n; }' >"$out/three.c"
@@ -293,7 +364,7 @@ END
     fi
 
     say
-    say '9. The same program with calls that are bound when they are first made: a plain table of such calls is two functions more'
+    say '10. The same program with calls that are bound when they are first made: a plain table of such calls is two functions more'
     if (cd "$out" && "$compiler" -O1 -fcf-protection=none -o lazy calls.c libone.so libtwo.so libthree.so -Wl,-z,lazy) 2>/dev/null; then
         at=$(page_after "$out/lazy")
         tool linkplt "$out/lazy.sframe@$at" "$out/lazy@0x0" >"$out/report" || fail 'the program was not linked'
@@ -304,13 +375,13 @@ END
 fi
 
 say
-say '10. An object that the program makes itself, to try it on any machine: the same line everywhere'
+say '11. An object that the program makes itself, to try it on any machine: the same line everywhere'
 tool gen 1000 || fail 'the object was not linked'
 
 say
-say "Checked: every crate of the program and the library is proved. The section of $file was linked and read back, and a row was found."
+say "Checked: every crate of the program is proved. The section of $file was linked and read back, and a row was found."
 [ -z "$compiler" ] || say 'One section of two objects is the merged one of both, byte for byte.'
 [ -z "$walked" ] || say 'Core files were walked, and each frame that gdb lists, where it is there, is the same.'
 say "Made: in $out, the section (sframe), its report (report) and what it says (dump)."
-say 'Next: ./x install PREFIX puts all of it in place; docs/tutorial.md goes on from here; ./x bench takes the time beside readelf;'
-say './x gate proves and tests everything; ./x help lists what else there is.'
+say 'Next: ./x build --libraries builds the libraries for C; ./x install PREFIX puts all of it in place; docs/tutorial.md goes on from here;'
+say './x bench takes the time beside readelf; ./x gate proves and tests everything; ./x help lists what else there is.'

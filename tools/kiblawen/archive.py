@@ -3,8 +3,8 @@
     ./x archive
 
 The archive is one object: the crate's, and the toolchain's allocator over malloc, realloc and free. No code is added. Of its names a
-program sees those that kiblawen-link.h declares. The file is crates/sf_link_c/out/libkiblawen_link.a; `sh demo/run` makes it, too. It
-needs `rt`, and binutils: $AR, $LD and $OBJCOPY, or ar, ld and objcopy.
+program sees those that kiblawen-link.h declares. The file is crates/sf_link_c/out/libkiblawen_link.a; `./x build --libraries` makes
+it, too. It needs `rt`, and binutils: $AR, $LD and $OBJCOPY, or ar, ld and objcopy.
 """
 
 import glob

@@ -13,7 +13,7 @@
     ./x bench hostile ..  deliberately slow inputs, compared with limits; `./x bench hostile --help` says more
     ./x bench --tool PROGRAM ..   with another program
 
-It needs the program and the library (`sh demo/run` builds both), binutils and, for the library, a C compiler. If there is a rustc, link,
+It needs the program (`sh demo/run`) and the library (`./x build --libraries`), binutils and, for the library, a C compiler. If there is a rustc, link,
 linkplt and verify are also measured beside bench/plain.rs, a Rust program that makes or compares the same section and checks no input, and
 that reads the whole file or only the parts that it needs. Each time is the least of seven, user and system time together. The commands of one
 table are run in turn, seven times, a quick command many times in each round. The files made are in bench/out. Of these the gate runs only
@@ -380,7 +380,7 @@ def walkers(compiler, tool):
 
 def library(tool):
     if not os.access(program.LIBRARY, os.R_OK):
-        common.fail(__name__, "the library is not built")
+        common.fail(__name__, "the library is not built: ./x build --libraries builds it")
     os.makedirs(OUT, exist_ok=True)
     compiler = shlex.split(os.environ.get("CC") or "cc")
     status = built(compiler, "library") or common.status_of([out("library")]) or walkers(compiler, tool)

@@ -1,4 +1,4 @@
-"""Builds the program, makes the section of a real library, and shows what each command does with it.
+"""Makes the section of a real library unproved, builds the program, and shows what each command does with that library.
 
     ./x demo          the library is the machine's C library, or else the program itself
     ./x demo FILE     another executable or shared object for AMD64 or AArch64

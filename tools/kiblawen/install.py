@@ -5,9 +5,9 @@
     DESTDIR=/tmp/root ./x install /usr                 the files go below /tmp/root, for use below /usr
 
 PREFIX and DESTDIR are relative to the folder where the script is started, LIBDIR to PREFIX. DESTDIR is for packages: no installed
-file names it. First build program and libraries with `sh demo/run`; libkiblawen_link is omitted if it isn't built. The shared libraries
-are made from the archives by a C compiler ($CC, or cc); without one they are omitted. A line says what is omitted. Nothing else is
-needed, and nothing outside the prefix changes.
+file names it. First build the program with `sh demo/run`, and the C libraries with `./x build --libraries`; a library that isn't built is
+omitted. The shared libraries are made from the archives by a C compiler ($CC, or cc); without one they are omitted. A line says what is
+omitted. Nothing else is needed, and nothing outside the prefix changes.
 """
 
 import os
@@ -19,6 +19,7 @@ from kiblawen import common, program, shared
 DOCUMENTS = ["README.md", "CHANGELOG.md", "CONTRIBUTING.md", "SECURITY.md", "VERSION", "LICENSE-MIT", "LICENSE-APACHE"]
 # The modules of kiblawen-add.
 MODULES = ["__init__.py", "add.py", "common.py", "elf.py", "program.py", "tables.py"]
+LIBRARY_NAMES = {program.LIBRARY: "libkiblawen", program.LINK_LIBRARY: "libkiblawen_link"}
 # The quotes keep a folder with a blank in its name one word.
 PKG_CONFIG = """prefix={prefix}
 libdir={libdir}
@@ -75,23 +76,31 @@ class Installation:
         os.chmod(to, mode)
 
     def put_all(self, version):
+        self.put_program()
+        self.put_library(version)
+
+    def put_program(self):
+        """Installs the program, kiblawen-add and the documents."""
         self.put(0o755, program.BUILT, f"{self.prefix}/bin")
         self.put(0o755, common.at_top("tools", "kiblawen-add"), f"{self.prefix}/bin")
         for name in MODULES:
             self.put(0o644, common.at_top("tools", "kiblawen", name), f"{self.prefix}/share/kiblawen/kiblawen")
         for name in ("sf_tool.1", "kiblawen-add.1"):
             self.put(0o644, common.at_top("man", name), f"{self.prefix}/share/man/man1")
-        self.put(0o644, program.LIBRARY, self.libdir, "libkiblawen.a")
-        self.put(0o644, common.at_top("include", "kiblawen.h"), f"{self.prefix}/include")
-        if shared.compiler():
-            self.put_shared(shared.LOOK_UP)
-        self.put(0o644, common.at_top("python", "kiblawen.py"), f"{self.prefix}/share/kiblawen/python")
         documents = f"{self.prefix}/share/doc/kiblawen"
         for name in DOCUMENTS:
             self.put(0o644, common.at_top(name), documents)
         for name in sorted(os.listdir(common.at_top("docs"))):
             if name.endswith((".md", ".svg")):
                 self.put(0o644, common.at_top("docs", name), f"{documents}/docs")
+
+    def put_library(self, version):
+        """Installs the library that looks up, with its header and the Python module."""
+        self.put(0o644, program.LIBRARY, self.libdir, "libkiblawen.a")
+        self.put(0o644, common.at_top("include", "kiblawen.h"), f"{self.prefix}/include")
+        if shared.compiler():
+            self.put_shared(shared.LOOK_UP)
+        self.put(0o644, common.at_top("python", "kiblawen.py"), f"{self.prefix}/share/kiblawen/python")
         self.put_pkg_config("kiblawen", PKG_CONFIG, version)
 
     def put_link_library(self, version):
@@ -136,18 +145,18 @@ def main(words):
         common.fail(__name__, f"{top} cannot be made")
     if not os.access(top or "/", os.W_OK):
         common.fail(__name__, f"{top} is not writable")
-    for path in (program.BUILT, program.LIBRARY):
-        if not os.access(path, os.R_OK):
-            common.fail(__name__, f"{os.path.relpath(path, common.TOP)} is not built: sh demo/run builds it")
-    version, has_link = common.version(), os.access(program.LINK_LIBRARY, os.R_OK)
+    if not os.access(program.BUILT, os.R_OK):
+        common.fail(__name__, f"{os.path.relpath(program.BUILT, common.TOP)} is not built: sh demo/run builds it")
+    version, libraries = common.version(), {program.LIBRARY: to.put_library, program.LINK_LIBRARY: to.put_link_library}
     try:
-        to.put_all(version)
-        if has_link:
-            to.put_link_library(version)
+        to.put_program()
+        for archive, put in libraries.items():
+            if os.access(archive, os.R_OK):
+                put(version)
+            else:
+                print(f"{LIBRARY_NAMES[archive]} is omitted: ./x build --libraries builds it")
     except OSError as fault:
         common.fail(__name__, str(fault))
-    if not has_link:
-        print("libkiblawen_link is omitted: sh demo/run builds it")
     if not shared.compiler():
         print("the shared libraries are omitted: there is no C compiler, which makes them")
     print(f"kiblawen {version} for {to.prefix} is installed{f' under {to.root}' if to.root else ''}")

@@ -2,9 +2,10 @@
 
     ./x module
 
-First run `sh demo/run`, also after the gate. `rt` makes a module of a crate, gives it to its clang, and deletes it. So both crates are
-compiled once more, in copies of what `rt` keeps, and by links to the toolchain in which clang is a script: it keeps the module, and goes on
-as the toolchain's clang. The command fails if this compiles other bytes than those that were built.
+First `rt` builds both where they stand. It proves the crates below them for that, unless it has kept their libraries: `rt ci` leaves none.
+`rt` makes a module of a crate, gives it to its clang, and deletes it. So both crates are compiled once more, in copies of what `rt` keeps,
+and by links to the toolchain in which clang is a script: it keeps the module, and goes on as the toolchain's clang. The command fails if
+this compiles other bytes than those that were built.
 
 The modules are in out/llvm of the crates sf_tool and sf_c: as bitcode, as text for older versions of clang, and with the flags of the
 toolchain's clang that change code. Beside that of the program is the object that the toolchain's clang makes of it. `./x release` packs
@@ -117,17 +118,24 @@ def toolchain_that_keeps(kept, room):
     return f"{links}/bin/rt"
 
 
+def link(file, to):
+    try:
+        os.link(file, to)
+    except OSError:
+        shutil.copy2(file, to)
+
+
 def copy_crates(name, room):
     """Copies a crate and those below it, and what `rt` keeps of them. Returns the crate's folder."""
-    below = build.crates()[name]
+    below = build.below(name)
     for it in below:
         # `rt ci` leaves a library without this file, and over that one `rt` would prove all anew.
         if not os.path.exists(common.at_top("crates", it, "out", "rlib", "stamp")):
-            raise NotMade(f"there is no library of the crate {it} over which `rt` compiles: `sh demo/run` makes it")
-        build.copy(it, f"{room}/crates", ("src", "specs", "proofs", "out/rlib"))
-    build.copy(name, f"{room}/crates", ("src", "specs", "proofs", "out/incremental"))
-    with open(common.at_top("crates.txt"), encoding="utf-8") as file, open(f"{room}/crates.txt", "w", encoding="utf-8") as to:
-        to.writelines(it for it in file if re.split("[ :]", it)[0] in {name, *below})
+            raise NotMade(f"there is no library of the crate {it} over which `rt` compiles: `./x module` makes it")
+    build.copy_crates([*below, name], room)
+    for it, part, how in [*((it, "rlib", link) for it in below), (name, "incremental", shutil.copy2)]:
+        kept = common.at_top("crates", it, "out", part)
+        shutil.copytree(kept, os.path.join(room, "crates", it, "out", part), copy_function=how)
     return f"{room}/crates/{name}"
 
 
@@ -214,6 +222,9 @@ def make_tarball(release, note, room, to):
 def main(words):
     common.parser(__name__, __doc__).parse_args(words)
     program.find(__name__, has_to_be_new=True)
+    for module in MODULES:
+        if common.status_of(["rt", *module.words], cwd=common.at_top("crates", module.crate), stdin=subprocess.DEVNULL):
+            common.fail(__name__, f"`rt` did not build {module.crate}")
     try:
         make_all()
     except NotMade as why:

@@ -1,11 +1,11 @@
-"""Makes the files of a release from what `sh demo/run` has built: a tarball, Debian packages, a note and checksums.
+"""Makes the files of a release from what `./x build` has built: a tarball, Debian packages, a note and checksums.
 
     ./x release
 
 The files are in dist/, which is emptied first: kiblawen-VERSION-linux-MACHINE.tar.gz, the packages kiblawen, libkiblawen0,
 libkiblawen-link0, libkiblawen-dev and python3-kiblawen, kiblawen-VERSION-llvm.tar.gz with the LLVM modules (see `./x help module`),
 kiblawen-VERSION-static-MACHINE.tar.gz with a program that needs no C library, kiblawen-VERSION.txt, which is the note, and SHA256SUMS.
-First run the gate, then `sh demo/run`. The tree has to be as it was committed. A C compiler makes the shared libraries.
+First run the gate, then `./x build`, `./x build --libraries` and `./x module`. The tree has to be as it was committed. A C compiler makes the shared libraries.
 
 A commit that has the tag vVERSION is that version. Any other one is VERSION+gitDATE.COMMIT. All bytes come from the commit and from what
 was built: times are the commit's, the owner is root, names are in order. Packages need dpkg-deb. Without it they are omitted.
@@ -119,7 +119,7 @@ def check_built():
     program.find(__name__, has_to_be_new=True)
     for library in (program.LIBRARY, program.LINK_LIBRARY):
         if not os.access(library, os.R_OK):
-            common.fail(__name__, f"there is no {library}: `sh demo/run` builds it")
+            common.fail(__name__, f"there is no {library}: `./x build --libraries` builds it")
         newer = program.newer_source(library)
         if newer:
             common.fail(__name__, f"{newer} is newer than {library}: build it again")
