@@ -54,6 +54,15 @@ def output(*words, status=(0,)):
     return ran.stdout.decode(errors="replace") if ran.returncode in status else None
 
 
+def shown(text):
+    """A name or a line for people: each byte of a control character or another one that isn't printed is `\\x` and two digits."""
+    return "".join(it if it.isprintable() else escaped(it) for it in text)
+
+
+def escaped(character):
+    return "".join(f"\\x{byte:02x}" for byte in character.encode("utf-8", "surrogateescape"))
+
+
 def become(*words):
     """Goes on as another command, which gets the signals and whose exit status is that of this one."""
     sys.stdout.flush()

@@ -18,7 +18,7 @@ from kiblawen import common, program, shared
 
 DOCUMENTS = ["README.md", "CHANGELOG.md", "CONTRIBUTING.md", "SECURITY.md", "VERSION", "LICENSE-MIT", "LICENSE-APACHE"]
 # The modules of kiblawen-add.
-MODULES = ["__init__.py", "add.py", "common.py", "elf.py", "program.py", "tables.py"]
+MODULES = ["__init__.py", "add.py", "common.py", "elf.py", "program.py", "replacing.py", "tables.py"]
 LIBRARY_NAMES = {program.LIBRARY: "libkiblawen", program.LINK_LIBRARY: "libkiblawen_link"}
 # The quotes keep a folder with a blank in its name one word.
 PKG_CONFIG = """prefix={prefix}

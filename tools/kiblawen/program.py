@@ -2,7 +2,9 @@
 
 import os
 import re
+import shutil
 import subprocess
+import sys
 
 from kiblawen import common, elf
 
@@ -30,6 +32,15 @@ def find(module, tool=None, has_to_be_new=False):
     if newer:
         common.fail(module, f"{newer} is newer than {BUILT}: build it again")
     return BUILT
+
+
+def beside(name, tool):
+    """The program for a script of this name: the one of `--tool`, or the one beside the script, or the one that was built, or the one on PATH."""
+    near = [os.path.join(os.path.dirname(it), "sf_tool") for it in (os.path.abspath(sys.argv[0]), os.path.realpath(sys.argv[0]))]
+    for path in [tool] if tool else [*near, BUILT, shutil.which("sf_tool")]:
+        if path and os.path.isfile(path) and os.access(path, os.X_OK):
+            return os.path.abspath(path)
+    return sys.exit(f"{name}: {tool} is no program" if tool else f"{name}: there is no sf_tool beside it or on PATH: use --tool")
 
 
 def newer_source(path=BUILT):

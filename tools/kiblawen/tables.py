@@ -1,21 +1,18 @@
 """Makes the table of a finished ELF file, and puts it into that file, or into a store by build identifier."""
 
 import collections
-import errno
 import filecmp
 import os
-import stat
+import shutil
 import subprocess
 import tempfile
 
-from kiblawen import common, elf, program
+from kiblawen import common, elf, program, replacing
 
 SECTION = ".sframe"
+# The first bytes of a table, and the number of the version after them.
+MAGIC, VERSION = b"\xe2\xde", 2
 CHUNK = 1 << 20
-# How the name of a folder begins that a file's new version is made in, beside it.
-ROOM = ".kiblawen-add-"
-# Attributes that sign a file's contents, and so are wrong for a changed file.
-SIGNATURES = ("security.ima", "security.evm")
 # The status of `sf_tool` for a file that it can't link: malformed or out of reach, and past a limit.
 REFUSALS = ("status 5:", "status 7:")
 
@@ -24,7 +21,7 @@ Table = collections.namedtuple("Table", "kept reasons size before after")
 
 
 class Stop(Exception):
-    """Why a file gets no table now: `had`, `debug`, `empty`, `refused` or `failed`, and the words for it."""
+    """Why a file gets no table now: `had`, `other`, `debug`, `empty`, `refused` or `failed`, and the words for it."""
 
     def __init__(self, state, why=""):
         super().__init__(why)
@@ -77,11 +74,24 @@ def compare_headers(old, new):
 def compare_images(old, new):
     """Checks that two open files have the same bytes in their segments, apart from the headers, which have to be the same already."""
     place, entry, count = elf.table_of_segments(old)
+    parts = collections.defaultdict(list)
     for one, other in zip(elf.program_headers(old), elf.program_headers(new)):
         start, end = one.offset, one.offset + one.length
-        for first, last in ((max(start, 64), min(end, place)), (max(start, 64, place + entry * count), end)):
-            if first < last and not same(old, first, new, first - start + other.offset, last - first):
+        parts[other.offset - start] += [(max(start, 64), min(end, place)), (max(start, 64, place + entry * count), end)]
+    for moved, ranges in parts.items():
+        for first, last in joined(ranges):
+            if not same(old, first, new, first + moved, last - first):
                 raise Stop("refused", "objcopy changes what is loaded of it")
+
+
+def joined(ranges):
+    """What these ranges cover, each byte once, in order."""
+    covered = 0
+    for first, last in sorted(ranges):
+        first = max(first, covered)
+        if first < last:
+            yield first, last
+            covered = last
 
 
 def compared(file):
@@ -100,34 +110,49 @@ def compare_sections(old, new):
         raise Stop("refused", "objcopy changes how many sections it has")
 
 
-def section_of(file):
-    """The section of an open file that is its table, or none."""
-    return next((it for it in elf.sections(file) if it.name == SECTION), None)
+def table_in(sections):
+    """The section that is a file's table, or none."""
+    return next((it for it in sections if it.name == SECTION), None)
 
 
-def is_debug(file):
-    """Whether an open file is debug-only: its call frame information has no bytes."""
-    return any(it.name == ".eh_frame" and it.kind == elf.SHT_NOBITS for it in elf.sections(file))
+def is_debug(sections):
+    """Whether a file is debug-only: its call frame information has no bytes."""
+    return any(it.name == ".eh_frame" and it.kind == elf.SHT_NOBITS for it in sections)
 
 
-def look(path, again):
-    """Checks that a file can have a table added."""
-    with open(path, "rb") as file:
-        found = section_of(file)
-        if found and not again:
-            raise Stop("had")
-        if found and any(kind == elf.PT_LOAD and start <= found.start < start + size for kind, _, start, _, size in elf.segments(file)):
-            raise Stop("refused", f"its linker has put {SECTION} into a loaded segment")
-        if is_debug(file):
-            raise Stop("debug")
-        if elf.end(file) < os.path.getsize(path):
-            raise Stop("refused", "data is appended to it, which objcopy would drop")
+def version_of(content):
+    """The version of a table by its first bytes, or none if it is no table."""
+    return content[2] if content[:2] == MAGIC and len(content) > 2 else None
+
+
+def check_version(content):
+    """Stops with what is said of a file that has this table already."""
+    version = version_of(content)
+    if version is None:
+        raise Stop("refused", f"its {SECTION} is no SFrame section")
+    raise Stop("had") if version == VERSION else Stop("other", f"its table has Version {version}")
+
+
+def look(file, again):
+    """Checks that an open file can have a table added."""
+    sections, size = elf.sections(file), os.fstat(file.fileno()).st_size
+    if is_debug(sections):
+        raise Stop("debug")
+    found = table_in(sections)
+    if found and not again:
+        check_version(elf.read_at(file, found.offset, 3))
+    if found and any(kind == elf.PT_LOAD and start <= found.start < start + size for kind, _, start, _, size in elf.segments(file)):
+        raise Stop("refused", f"its linker has put {SECTION} into a loaded segment")
+    if elf.end(file, sections) < size:
+        raise Stop("refused", "data is appended to it, which objcopy would drop")
+    if sum(it.size for it in sections if it.kind != elf.SHT_NOBITS) > size:
+        raise Stop("refused", "its sections overlap, which objcopy would write apart")
 
 
 def read_back(path, at, table, back):
     """Writes the table of a file to a file of its own, and checks that it is this table and how it is marked."""
     with open(path, "rb") as file:
-        found = section_of(file)
+        found = table_in(elf.sections(file))
         if not found or found.start != at or found.flags != elf.SHF_ALLOC:
             raise Stop("failed", f"{SECTION} is not marked as loaded at {at:#x}")
         file.seek(found.offset)
@@ -138,84 +163,83 @@ def read_back(path, at, table, back):
         raise Stop("failed", f"{SECTION} is not the table that was added")
 
 
-def copy_attributes(path, new):
-    """Gives a new file the owner, the mode and the extended attributes of another one."""
-    here, there = os.stat(path), os.stat(new)
-    if (here.st_uid, here.st_gid) != (there.st_uid, there.st_gid):
-        os.chown(new, here.st_uid, here.st_gid)
-    try:
-        names = os.listxattr(path)
-    except OSError as fault:
-        if fault.errno != errno.ENOTSUP:
-            raise
-        names = []
-    for name in names:
-        if name not in SIGNATURES:
-            os.setxattr(new, name, os.getxattr(path, name))
-    os.chmod(new, stat.S_IMODE(here.st_mode))
-
-
-def replace(new, names, before):
-    """Puts a new file in the place of one that has these names, if it hasn't changed since."""
-    with open(new, "rb") as file:
-        os.fsync(file.fileno())
-    now = os.stat(names[0])
-    if (now.st_ino, now.st_size, now.st_mtime_ns) != (before.st_ino, before.st_size, before.st_mtime_ns):
-        raise Stop("failed", "it was changed meanwhile")
-    os.rename(new, names[0])
-    for name in names[1:]:
-        other = os.path.join(os.path.dirname(name), f"{ROOM}{os.path.basename(name)}")
-        os.link(names[0], other)
-        os.rename(other, name)
-
-
-def into_file(given, names):
+def into_file(given, found):
     """Adds the table of a file to it."""
-    path = names[0]
-    look(path, given.again)
-    before = os.stat(path)
-    if before.st_nlink != len(names):
-        raise Stop("refused", f"{before.st_nlink} hard links name it, and {len(names)} of them were found")
-    with tempfile.TemporaryDirectory(prefix=ROOM, dir=os.path.dirname(path)) as room:
-        table, new, back = (os.path.join(room, name) for name in ("table", "new", "back"))
-        at, kept, reasons = make(given.tool, given.command, path, table)
-        flags = ["--set-section-flags", f"{SECTION}=alloc,readonly,data", "--change-section-address", f"{SECTION}={at:#x}"]
-        run(given.objcopy, "--remove-section", SECTION, "--add-section", f"{SECTION}={table}", *flags, path, new)
-        with open(path, "rb") as old, open(new, "rb") as changed:
-            compare_headers(old, changed)
-            compare_images(old, changed)
-            compare_sections(old, changed)
+    with replacing.opened(found) as original, tempfile.TemporaryDirectory(prefix=replacing.ROOM) as room:
+        look(original.file, given.again)
+        if original.before.st_nlink != len(found.names):
+            raise Stop("refused", f"{original.before.st_nlink} hard links name it, and {len(found.names)} of them were found")
+        old, table, new, back = (os.path.join(room, name) for name in ("old", "table", "new", "back"))
+        original.copy(old)
+        at, kept, reasons = make(given.tool, given.command, old, table)
+        add_section(given, at, table, old, new)
         read_back(new, at, table, back)
         run(given.tool, "verify", f"{back}@{at:#x}", f"{new}@{elf.BASE:#x}")
-        copy_attributes(path, new)
-        made = Table(kept, reasons, os.path.getsize(back), before.st_size, os.path.getsize(new))
-        replace(new, names, before)
-    return made
+        original.replace(new)
+        return Table(kept, reasons, os.path.getsize(back), original.before.st_size, os.path.getsize(new))
 
 
-def place(store, path):
-    """The name that the table of a file has in a store."""
-    found = elf.build_id(path)
+def add_section(given, at, table, old, new):
+    """Has objcopy make a file with the table of another one, and checks that it changes nothing else."""
+    flags = ["--set-section-flags", f"{SECTION}=alloc,readonly,data", "--change-section-address", f"{SECTION}={at:#x}"]
+    run(given.objcopy, "--remove-section", SECTION, "--add-section", f"{SECTION}={table}", *flags, old, new)
+    with open(old, "rb") as before, open(new, "rb") as changed:
+        compare_headers(before, changed)
+        compare_images(before, changed)
+        compare_sections(before, changed)
+
+
+def place(store, file):
+    """The name that the table of an open file has in a store."""
+    found = elf.build_id_of(file)
     if not found or len(found) < 4:
         raise Stop("refused", "it has no build identifier")
     return os.path.join(store, found[:2], f"{found[2:]}.sframe")
 
 
-def into_store(given, names):
+def check_kept(tool, table, old, room):
+    """Stops with what is said of a file whose table a store has: another file may have claimed its build identifier."""
+    kept = os.path.join(room, "kept")
+    shutil.copyfile(table, kept)
+    with open(kept, "rb") as file:
+        version = version_of(file.read(3))
+    if version not in (None, VERSION):
+        raise Stop("other", f"{table} has Version {version}")
+    try:
+        run(tool, "verify", f"{kept}@{elf.page_after(old):#x}", f"{old}@{elf.BASE:#x}")
+    except Stop as stop:
+        raise Stop("refused", f"{table} is the table of another file: {stop.why}") from None
+    raise Stop("had")
+
+
+def into_store(given, found):
     """Puts the table of a file into a store."""
-    path = names[0]
-    to = place(given.into_store, path)
-    if os.path.exists(to) and not given.again:
-        raise Stop("had")
-    with open(path, "rb") as file:
-        if is_debug(file):
+    with replacing.opened(found) as original, tempfile.TemporaryDirectory(prefix=replacing.ROOM) as room:
+        if is_debug(elf.sections(original.file)):
             raise Stop("debug")
-    os.makedirs(os.path.dirname(to), exist_ok=True)
-    with tempfile.TemporaryDirectory(prefix=ROOM, dir=os.path.dirname(to)) as room:
-        table = os.path.join(room, "table")
-        at, kept, reasons = make(given.tool, given.command, path, table)
-        run(given.tool, "verify", f"{table}@{at:#x}", f"{path}@{elf.BASE:#x}")
-        os.chmod(table, 0o644)
-        os.rename(table, to)
-    size, whole = os.path.getsize(to), os.path.getsize(path)
-    return Table(kept, reasons, size, whole, whole)
+        to = place(given.into_store, original.file)
+        old, table = os.path.join(room, "old"), os.path.join(room, "table")
+        original.copy(old)
+        if os.path.exists(to) and not given.again:
+            check_kept(given.tool, to, old, room)
+        at, kept, reasons = make(given.tool, given.command, old, table)
+        run(given.tool, "verify", f"{table}@{at:#x}", f"{old}@{elf.BASE:#x}")
+        os.makedirs(os.path.dirname(to), exist_ok=True)
+        replacing.put(table, to, 0o644)
+        size, whole = os.path.getsize(table), original.before.st_size
+        return Table(kept, reasons, size, whole, whole)
+
+
+def from_store(given, found):
+    """Where a store has the table of a file, as TABLE@AT."""
+    with replacing.opened(found) as original, tempfile.TemporaryDirectory(prefix=replacing.ROOM) as room:
+        table, old = place(given.from_store, original.file), os.path.join(room, "old")
+        if not os.path.isfile(table):
+            raise Stop("failed", f"{table} is not there")
+        original.copy(old)
+        try:
+            check_kept(given.tool, table, old, room)
+        except Stop as stop:
+            if stop.state != "had":
+                raise
+        return f"{table}@{elf.page_after(old):#x}"
