@@ -1,4 +1,4 @@
-"""Puts the program, `kiblawen-add`, the C libraries with their headers, a Python module, man pages and documents under a prefix.
+"""Puts the program, `kiblawen-add`, `kiblawen-core`, the C libraries with their headers, a Python module, man pages and documents under a prefix.
 
     ./x install [PREFIX]                               by default /usr/local
     LIBDIR=lib/x86_64-linux-gnu ./x install /usr       the folder of the C libraries, by default PREFIX/lib
@@ -17,8 +17,11 @@ import tempfile
 from kiblawen import common, program, shared
 
 DOCUMENTS = ["README.md", "CHANGELOG.md", "CONTRIBUTING.md", "SECURITY.md", "VERSION", "LICENSE-MIT", "LICENSE-APACHE"]
-# The modules of kiblawen-add.
-MODULES = ["__init__.py", "add.py", "common.py", "elf.py", "program.py", "replacing.py", "tables.py"]
+# The scripts beside the program, and their modules.
+SCRIPTS = ["kiblawen-add", "kiblawen-core"]
+MODULES = [
+    "__init__.py", "add.py", "common.py", "core.py", "core_file.py", "elf.py", "program.py", "replacing.py", "symbols.py", "tables.py",
+]
 LIBRARY_NAMES = {program.LIBRARY: "libkiblawen", program.LINK_LIBRARY: "libkiblawen_link"}
 # The quotes keep a folder with a blank in its name one word.
 PKG_CONFIG = """prefix={prefix}
@@ -80,13 +83,14 @@ class Installation:
         self.put_library(version)
 
     def put_program(self):
-        """Installs the program, kiblawen-add and the documents."""
+        """Installs the program, the scripts beside it and the documents."""
         self.put(0o755, program.BUILT, f"{self.prefix}/bin")
-        self.put(0o755, common.at_top("tools", "kiblawen-add"), f"{self.prefix}/bin")
+        for name in SCRIPTS:
+            self.put(0o755, common.at_top("tools", name), f"{self.prefix}/bin")
         for name in MODULES:
             self.put(0o644, common.at_top("tools", "kiblawen", name), f"{self.prefix}/share/kiblawen/kiblawen")
-        for name in ("sf_tool.1", "kiblawen-add.1"):
-            self.put(0o644, common.at_top("man", name), f"{self.prefix}/share/man/man1")
+        for name in ("sf_tool", *SCRIPTS):
+            self.put(0o644, common.at_top("man", f"{name}.1"), f"{self.prefix}/share/man/man1")
         documents = f"{self.prefix}/share/doc/kiblawen"
         for name in DOCUMENTS:
             self.put(0o644, common.at_top(name), documents)

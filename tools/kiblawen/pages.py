@@ -21,7 +21,7 @@ import re
 import subprocess
 import tempfile
 
-from kiblawen import common, program
+from kiblawen import common, install, program
 
 FOLDER = common.at_top("docs")
 SECONDS = 60
@@ -240,7 +240,8 @@ def main(words):
         print(f"FAILED {link} leads nowhere")
     with tempfile.TemporaryDirectory(prefix="tool-") as folder:
         os.symlink(tool, os.path.join(folder, "sf_tool"))
-        os.symlink(common.at_top("tools", "kiblawen-add"), os.path.join(folder, "kiblawen-add"))
+        for name in install.SCRIPTS:
+            os.symlink(common.at_top("tools", name), os.path.join(folder, name))
         environment = {"PATH": f"{folder}:{os.environ.get('PATH', os.defpath)}", "LC_ALL": "C", "HOME": folder}
         missing = missing_needs(environment)
         counts = [try_page(path, environment, missing) for path in pages]

@@ -20,6 +20,7 @@ def main(words):
         ("CHANGELOG.md", f"## {version}"),
         ("man/sf_tool.1", f"Kiblawen {version}"),
         ("man/kiblawen-add.1", f"Kiblawen {version}"),
+        ("man/kiblawen-core.1", f"Kiblawen {version}"),
         ("include/kiblawen.h", f'#define KIBLAWEN_VERSION_STRING "{version}"'),
         *(("include/kiblawen.h", f"#define KIBLAWEN_VERSION_{part} {number}") for part, number in numbers),
         ("README.md", logic),
