@@ -20,7 +20,7 @@ import subprocess
 import sys
 import time
 
-from kiblawen import archive, common, program
+from kiblawen import archive, built, common, program
 from kiblawen import crates as crate_list
 
 COPY, LOG = common.at_top("demo", "out", "proved"), common.at_top("demo", "out", "build.log")
@@ -232,9 +232,12 @@ def main(words):
     for number in (signal.SIGINT, signal.SIGTERM, signal.SIGHUP):
         signal.signal(number, lambda number, _: sys.exit(128 + number))
     os.makedirs(os.path.dirname(os.path.abspath(given.log)), exist_ok=True)
+    commit = built.clean_commit()
     with open(given.log, "w", encoding="utf-8") as log:
         is_built = build_libraries(log) if given.libraries else prove(log)
-    if not is_built:
+    if is_built:
+        built.write(commit, built.FILES[1:] if given.libraries else built.FILES[:1])
+    else:
         print("   It failed; the last lines:", file=sys.stderr)
         with open(given.log, encoding="utf-8") as log:
             sys.stderr.writelines(log.readlines()[-LAST_LINES:])

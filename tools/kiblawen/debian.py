@@ -7,7 +7,7 @@ import shutil
 import subprocess
 import time
 
-from kiblawen import common, shared, staging
+from kiblawen import common, install, payload, shared, staging
 
 MAINTAINER = "Kiblawen maintainers <maintainers@users.noreply.kiblawen.example>"
 # A package's version is that of the release, and this number of its packaging.
@@ -227,25 +227,29 @@ class Package:
         return path
 
 
-def make_all(release, note, room, to):
-    """Makes the packages. Returns their pathnames: none, with a line, if this machine has no dpkg-deb."""
-    if not shutil.which("dpkg-deb"):
-        print("release: no packages were made: this machine has no dpkg-deb")
-        return []
-    stage = os.path.join(room, "stage")
-    staging.installed(stage, "/usr", f"lib/{ARCHITECTURES[release.machine][1]}")
+def packages(by, release, note, room):
+    """The packages, each in a folder of its own with all that it has."""
+    stage, libdir = os.path.join(room, "stage"), f"usr/lib/{ARCHITECTURES[release.machine][1]}"
+    staging.installed(by, stage, "/usr", libdir[len("usr/") :])
     os.renames(os.path.join(stage, MODULE), os.path.join(stage, DEBIAN_MODULE))
-    made = []
-    for fields, wanted in PACKAGES:
-        package = Package(release, fields, os.path.join(room, "packages", str(len(made))))
+    for number, (fields, wanted) in enumerate(PACKAGES):
+        package = Package(release, fields, os.path.join(room, "packages", str(number)))
         package.take(stage, wanted)
         package.follow_policy()
         package.add_documents(note)
         package.add_control()
         if fields in SHARED_LIBRARIES:
             package.add_shared(SHARED_LIBRARIES[fields])
-        made.append(package.make(to))
-    return made
+        payload.check("release", f"the package {package.name}", package.root, payload.of_package(package.name, libdir))
+        yield package
+
+
+def make_all(release, note, room, to):
+    """Makes the packages. Returns their pathnames: none, with a line, if this machine has no dpkg-deb."""
+    if not shutil.which("dpkg-deb"):
+        print("release: no packages were made: this machine has no dpkg-deb")
+        return []
+    return [package.make(to) for package in packages(install.Installation, release, note, room)]
 
 
 def lint(packages):

@@ -1,11 +1,14 @@
 """Makes the files of a release from what `./x build` has built: a tarball, Debian packages, a note and checksums.
 
-    ./x release
+    ./x release            makes the files
+    ./x release --check    makes none, and checks what each of them would have: a part of the gate
 
 The files are in dist/, which is emptied first: kiblawen-VERSION-linux-MACHINE.tar.gz, the packages kiblawen, libkiblawen0,
 libkiblawen-link0, libkiblawen-dev and python3-kiblawen, kiblawen-VERSION-llvm.tar.gz with the LLVM modules (see `./x help module`),
 kiblawen-VERSION-static-MACHINE.tar.gz with a program that needs no C library, kiblawen-VERSION.txt, which is the note, and SHA256SUMS.
-First run the gate, then `./x build`, `./x build --libraries` and `./x module`. The tree has to be as it was committed. A C compiler makes the shared libraries.
+First run the gate, then `./x build`, `./x build --libraries` and `./x module`. The tree has to be as it was committed, and built from the
+sources of this commit. A C compiler makes the shared libraries. A tarball or package that lacks one of its files, or has another one, fails
+the command. With --check an empty text stands for what isn't built.
 
 A commit that has the tag vVERSION is that version. Any other one is VERSION+gitDATE.COMMIT. All bytes come from the commit and from what
 was built: times are the commit's, the owner is root, names are in order. Packages need dpkg-deb. Without it they are omitted.
@@ -19,14 +22,15 @@ import shutil
 import tempfile
 import time
 
-from kiblawen import clauses, closure, common, debian, definitions, elf, module, program, shared, staging, static
+from kiblawen import built, clauses, closure, common, debian, definitions, elf, install, module, payload, program, shared, staging, static
 
 DIST = common.at_top("dist")
-# The toolchain's line, as README has it, and the digits of the logic in it.
-KIT = re.compile(r"`(\S+ logic ([0-9a-f]+))`")
+# The toolchain's logic, as README names it, and its digits. The name of a kit may come before it.
+KIT = re.compile(r"`((?:\S+ )?logic ([0-9a-f]+))`")
 NOTE = """Kiblawen {version}, for Linux on {machine}
 
 commit          {commit}
+built from      {built}
 date            {day}
 toolchain       {kit}
 sf_tool         sha256 {program}
@@ -60,16 +64,17 @@ def kit():
 
 
 class Release:
-    """The commit that is released, its version and date, and the machine of the program that was built."""
+    """The commit that is released, its version and date, the commit that was built, and the machine of the program."""
 
     def __init__(self):
         self.commit, self.date = git("rev-parse", "HEAD"), int(git("log", "-1", "--format=%ct"))
-        self.machine = elf.machine(program.BUILT)
+        self.built = built.commit()
+        self.machine = elf.machine(program.BUILT) or "amd64"
         self.day = time.strftime("%Y-%m-%d", time.gmtime(self.date))
         number = common.version()
         is_tagged = f"v{number}" in git("tag", "--points-at", "HEAD").split()
         self.version = number if is_tagged else f"{number}+git{self.day.replace('-', '')}.{self.commit[:8]}"
-        self.glibc = glibc_of(program.BUILT)
+        self.glibc = glibc_of(program.BUILT) if os.path.exists(program.BUILT) else None
 
 
 def glibc_of(path):
@@ -93,11 +98,10 @@ def note(release):
         version=release.version,
         machine=release.machine,
         commit=release.commit,
+        built=release.built,
         day=release.day,
         kit=kit()[0],
-        program=staging.digest(program.BUILT),
-        library=staging.digest(program.LIBRARY),
-        link_library=staging.digest(program.LINK_LIBRARY),
+        **{name: staging.digest(path) if os.path.exists(path) else "not built" for name, path in zip(("program", "library", "link_library"), built.FILES)},
         needs=f"glibc {release.glibc} or later" if release.glibc else "nothing",
         functions=len(functions),
         clauses=sum(len(it.clauses) for it in functions),
@@ -115,16 +119,20 @@ def check_tree():
 
 
 def check_built():
-    """Ends the command if the program or a library is missing, older than a source, or made by another toolchain."""
+    """Ends the command if the program or a library is missing, made of other sources, or by another toolchain."""
     program.find(__name__, has_to_be_new=True)
-    for library in (program.LIBRARY, program.LINK_LIBRARY):
+    for library in built.FILES[1:]:
         if not os.access(library, os.R_OK):
             common.fail(__name__, f"there is no {library}: `./x build --libraries` builds it")
         newer = program.newer_source(library)
         if newer:
             common.fail(__name__, f"{newer} is newer than {library}: build it again")
+    found = built.commit()
+    if not found or not built.has_same_sources(found):
+        what = f"built from {found}, whose sources differ" if found else "not built by `./x build` from a tree as it was committed"
+        common.fail(__name__, f"program and libraries were {what}")
     logic = kit()[1]
-    for path in (program.BUILT, program.LIBRARY, program.LINK_LIBRARY):
+    for path in built.FILES:
         with open(path, "rb") as file:
             if f"rattle logic={logic}".encode() not in file.read():
                 common.fail(__name__, f"{path} was not made by the toolchain that README.md names (logic {logic})")
@@ -132,10 +140,17 @@ def check_built():
         common.fail(__name__, "there is no C compiler, which makes the shared libraries")
 
 
-def make_tarball(release, text, room):
+def tarball_root(by, text, room):
+    """Makes the folder with what the tarball has."""
     root = os.path.join(room, "tarball")
-    staging.installed(root, "/", "lib", "${pcfiledir}/../..")
+    staging.installed(by, root, "/", "lib", "${pcfiledir}/../..")
     staging.write(os.path.join(root, "RELEASE.txt"), text + UNPACKED)
+    payload.check(__name__, "the tarball", root, payload.of_tarball())
+    return root
+
+
+def make_tarball(release, text, room):
+    root = tarball_root(install.Installation, text, room)
     staging.settle(root, release.date)
     name = f"kiblawen-{release.version}-linux-{release.machine}"
     staging.write_tar(os.path.join(DIST, f"{name}.tar.gz"), root, name, release.date)
@@ -157,8 +172,24 @@ def write_sums():
     staging.write(os.path.join(DIST, "SHA256SUMS"), "".join(lines))
 
 
+def check_parts():
+    """Makes the folders with what the tarball and the packages have. Ends the command if one of them hasn't what its name says."""
+    kit()
+    release = Release()
+    text = note(release)
+    with tempfile.TemporaryDirectory() as room:
+        tarball_root(payload.Names, text, room)
+        names = [it.name for it in debian.packages(payload.Names, release, text, room)]
+    how = "by what is built" if payload.is_built() else "by names, as not all is built here"
+    print(f"release: the tarball and {', '.join(names)} have what their names say, {how}")
+    return 0
+
+
 def main(words):
-    common.parser(__name__, __doc__).parse_args(words)
+    parser = common.parser(__name__, __doc__)
+    parser.add_argument("--check", action="store_true")
+    if parser.parse_args(words).check:
+        return check_parts()
     check_tree()
     check_built()
     release = Release()

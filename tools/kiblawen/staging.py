@@ -5,12 +5,14 @@ import hashlib
 import os
 import tarfile
 
-from kiblawen import common, install
+from kiblawen import common
 
 
-def installed(root, prefix, libdir, named=None):
-    """Puts the program, the library and the documents below a root, as ./x install does."""
-    install.Installation(prefix, libdir, root, named).put_all(common.version())
+def installed(by, root, prefix, libdir, named=None):
+    """Puts the program, both libraries and the documents below a root, as ./x install does."""
+    to = by(prefix, libdir, root, named)
+    to.put_all(common.version())
+    to.put_link_library(common.version())
 
 
 def write(path, text):

@@ -27,7 +27,7 @@ import subprocess
 import sys
 import tempfile
 
-from kiblawen import common, module, program, release, shared, staging, stopping
+from kiblawen import built, common, module, program, release, shared, staging, stopping
 
 SUITE = "bookworm"
 DEBOOTSTRAP = ["debootstrap", "--variant=minbase", "--include=gcc,libc6-dev,binutils,pkgconf,python3,clang-19", SUITE]
@@ -304,9 +304,9 @@ def try_again(tries, room):
     if common.status_of(["git", "clone", "-q", common.TOP, clone]):
         tries.skip("another folder", "the repository cannot be cloned")
         return
-    for path in (program.BUILT, program.LIBRARY):
+    for path in (*built.FILES, built.RECORD):
         to = os.path.join(clone, os.path.relpath(path, common.TOP))
-        os.makedirs(os.path.dirname(to))
+        os.makedirs(os.path.dirname(to), exist_ok=True)
         shutil.copy(path, to)
     for folder in (it.folder for it in module.MODULES if it.is_made()):
         shutil.copytree(folder, os.path.join(clone, os.path.relpath(folder, common.TOP)))
