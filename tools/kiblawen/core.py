@@ -181,18 +181,20 @@ class Run:
 
 
 def frames(lines):
-    """The lines of stacks, each with the address that names it: none for a line that isn't a frame's."""
+    """The lines of stacks, each with the address that names it, and how far the program counter is above that: none for a line that isn't a
+    frame's."""
     is_exact = True
     for line in lines:
         line = line.rstrip("\n")
         frame = FRAME.match(line)
         if not frame:
-            yield line, None
+            yield line, None, 0
             continue
         # The outermost frame was stopped there, and so was one that a signal interrupted. A signal's own function begins there.
         is_signal = line.endswith(" signal")
         is_exact = is_exact if frame[1] != "0" else True
-        yield line, int(frame[2], 16) - (not is_exact and not is_signal)
+        above = int(not is_exact and not is_signal)
+        yield line, int(frame[2], 16) - above, above
         is_exact = is_signal
 
 
@@ -210,7 +212,7 @@ def address_in(core, modules, address):
 def name_all(core, modules, given, said):
     """The names of the addresses in the stacks, by module."""
     wanted, count = collections.defaultdict(set), 0
-    for _, address in frames(said):
+    for _, address, _ in frames(said):
         found = address_in(core, modules, address)
         if found and found[1] not in wanted[found[0]] and count < MOST_ADDRESSES:
             wanted[found[0]].add(found[1])
@@ -228,9 +230,9 @@ def in_words(function, place):
 
 def show(core, modules, names, said):
     """Prints the stacks with their names."""
-    for line, address in frames(said):
+    for line, address, above in frames(said):
         found = address_in(core, modules, address)
-        named = names[found[0]].at(found[1]) if found and found[0] in names else [("", "")]
+        named = names[found[0]].at(found[1], above) if found and found[0] in names else [("", "")]
         print(common.shown(line + in_words(*named[0])))
         for function, place in named[1:]:
             print(common.shown(f"      inlined{in_words(function, place)}"))

@@ -6,8 +6,8 @@
 First run `./x release`. It needs the rights of root for chroot, and gdb and a C compiler for a core file. The copies of a root are links
 to its files, in a temporary folder beside it, so they take little room. ROOT gets lines in dpkg's log.
 
-The package kiblawen: README's example, kiblawen-add on its program, procwalk and procbacktrace on a core file that is copied in, beside gdb; then it is
-removed.
+The package kiblawen: README's example, kiblawen-add on its program, procwalk, procbacktrace and kiblawen-core on a core file that is copied in,
+beside gdb; then it is removed.
 The packages libkiblawen0 and libkiblawen-dev: the program of docs/library.md, built by pkg-config, walks a sample with a table that is
 copied in: with the archive, and with the shared library, also after libkiblawen-dev is removed.
 The package python3-kiblawen: the same walk in Python.
@@ -193,8 +193,11 @@ def try_process(tries, root, name, room):
         return
     root.copy(process.core, sorts, library)
     files = f"sorts {os.path.basename(library)}"
-    for command, script in ("procwalk", WITH.replace("FILES", files) + "sf_tool procwalk sorts.core 64 with/*"), (
-        "procbacktrace", f"sf_tool procbacktrace sorts.core 64 {files}",
+    copies = " && ".join(f"mkdir -p root{os.path.dirname(path)} && cp {os.path.basename(path)} root{path}" for path in (sorts, library))
+    for command, script in (
+        ("procwalk", WITH.replace("FILES", files) + "sf_tool procwalk sorts.core 64 with/*"),
+        ("procbacktrace", f"sf_tool procbacktrace sorts.core 64 {files}"),
+        ("kiblawen-core", f"{copies} && kiblawen-core --root root sorts.core"),
     ):
         status, said = root.run(script)
         frames = stopping.listed(said)

@@ -59,7 +59,7 @@ def best_of(file, offset, size, addresses):
 
 
 def by_symbols(file, addresses):
-    """The names of those addresses that a symbol has, as NAME+OFFSET."""
+    """The names of those addresses that a symbol has, each with the offset after its start."""
     addresses, named = sorted(addresses), {}
     for offset, size, texts in tables(file):
         left = [it for it in addresses if it not in named]
@@ -128,12 +128,14 @@ class Names:
                 if with_lines and has_lines(file):
                     self.lines.update(by_lines(os.path.abspath(place), addresses))
         shown = demangled({name for name, _ in self.symbols.values()})
-        self.symbols = {at: f"{shown.get(name, name)}+{offset:#x}" for at, (name, offset) in self.symbols.items()}
+        self.symbols = {at: (shown.get(name, name), offset) for at, (name, offset) in self.symbols.items()}
 
-    def at(self, address):
-        """The functions that an address is in, the innermost first, each with its line: pairs of texts, of which one may be empty."""
+    def at(self, address, above):
+        """The functions that an address is in, the innermost first, each with its line: pairs of texts, of which one may be empty. A symbol's
+        offset is that of the program counter, which is so far above the address."""
         found = [it for it in self.lines.get(address, ()) if any(it)]
-        symbol = self.symbols.get(address, "")
+        name, offset = self.symbols.get(address, (None, 0))
+        symbol = "" if name is None else f"{name}+{offset + above:#x}"
         if not found or not found[-1][0]:
             return [*found[:-1], (symbol, found[-1][1] if found else "")]
         return found
