@@ -23,7 +23,7 @@ BOXES = (
     ("tests", "base_tests elf_dwarf_tests sframe_tests core_tests sf_tests", "program", 0, 10, 290),
     ("", "sf_words sf_gen sf_text process_walk process_tables section_commands sf_run sf_tool", "program", 0, 330, 930),
     ("", "frame_functions sf_asm sf_link sf_plt module_tables sf_verify sf_link_c", "linking", 1, 10, 730),
-    ("merging", "sf_merge sf_slim", "SFrame", 2, 310, 490),
+    ("merging, Version 3", "sf_merge sf_slim sf3_model sf3_write sf3_upgrade", "SFrame", 2, 270, 490),
     ("walks", "core_walk core_parts sf_c sample_walk sf_modules", "SFrame", 2, 720, 930),
     ("writing", "sf_express sf_sizes sf_write sf_functions", "SFrame", 3, 310, 490),
     ("core files, pages", "core_notes elf_load elf_mapped", "ELF", 3, 510, 680),

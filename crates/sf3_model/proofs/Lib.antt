@@ -1,0 +1,4 @@
+pub mod Alike
+pub mod TableSame
+pub mod FlexibleAlike
+pub mod WorkedFlexible

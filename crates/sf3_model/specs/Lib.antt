@@ -1,0 +1,4 @@
+pub mod Described
+pub mod Section
+pub mod Lookup
+pub mod Flexible
