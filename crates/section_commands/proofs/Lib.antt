@@ -12,6 +12,7 @@ pub mod ComesToOne
 pub mod ShownComes
 pub mod WalkComes
 pub mod SlimComes
+pub mod UpgradeComes
 pub mod MergeComes
 pub mod ProcwalkComes
 pub mod Processes

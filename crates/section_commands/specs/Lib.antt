@@ -7,6 +7,7 @@ pub mod Dump
 pub mod Lookup
 pub mod Merge
 pub mod Slim
+pub mod Upgrade
 pub mod Walk
 pub mod Procwalk
 pub mod Process

@@ -14,6 +14,7 @@ mod merge;
 mod procwalk;
 mod section;
 mod slim;
+mod upgrade;
 mod walk;
 mod walks;
 
@@ -25,5 +26,6 @@ pub use merge::Merge;
 pub use procwalk::{Procwalk, sums_limit, unread_module};
 pub use section::undecoded;
 pub use slim::Slim;
+pub use upgrade::Upgrade;
 pub use walk::Walk;
 pub use walks::{mixed, same_machine, unread_core, view_walks};

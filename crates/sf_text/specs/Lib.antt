@@ -13,5 +13,6 @@ pub mod Gathered
 pub mod Summary
 pub mod ShownName
 pub mod Slim
+pub mod Upgraded
 pub mod PltReport
 pub mod Verdict

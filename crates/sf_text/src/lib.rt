@@ -1,11 +1,11 @@
-//! The texts that a program of this repository prints: the reports of links, the counts of a merge, what
+//! The texts that a program of this repository prints: the reports of links, the counts of a merge or an upgrade, what
 //! slimming saves, the content of a section, what a look-up finds, a verdict, what a walk lists, with the files
 //! of a process or without, the summary of a made object's link, the line of a fault, the line of an item that is
 //! too long, and the names of files.
 //!
 //! Each text is a definition in `specs/`, and the calls return it byte for byte: [`report`] is `report_text`,
-//! [`report_plt`] is `plt_report_text`, [`merged`] is `merged_text`, [`slim_line`] is `slim_text`, [`found`] is
-//! `found_text`, [`verdict`] is `verdict_text`, [`thread_text`] is `walk_text`, [`file_frames_text`] is
+//! [`report_plt`] is `plt_report_text`, [`merged`] is `merged_text`, [`slim_line`] is `slim_text`, [`upgraded`] is
+//! `upgraded_text`, [`found`] is `found_text`, [`verdict`] is `verdict_text`, [`thread_text`] is `walk_text`, [`file_frames_text`] is
 //! `file_frames_text`, [`summary`] is `summary_text`.
 //! [`put_output`] appends such a text, or `dump_text` of the table that a view shows, to a sink, and
 //! [`fault_line`], [`file_limit_line`] and [`put_name`] append `fault_text`, `file_limit_text` and `shown_name`.
@@ -37,6 +37,7 @@ mod section_dump;
 mod shown;
 mod shown_name;
 mod slim_text;
+mod upgrade_text;
 mod verdict_text;
 
 pub use file_frames::{FileFrame, ShownFile, file_frames_text};
@@ -52,4 +53,5 @@ pub use plt_report::report_plt;
 pub use refusal::fault_line;
 pub use shown_name::put_name;
 pub use slim_text::slim_line;
+pub use upgrade_text::upgraded;
 pub use verdict_text::verdict;
