@@ -331,6 +331,7 @@ def of_file(path, tool):
         Command("sf_tool merge", tool, "merge", out(f"merged@{at}"), section),
         Command("sf_tool linkplt", tool, "linkplt", out(f"plt@{at}"), source),
         Command("sf_tool slim", tool, "slim", out(f"slimmed@{at}"), section),
+        Command("sf_tool upgrade", tool, "upgrade", out(f"upgraded@{at}"), section),
         Command("sf_tool verify", tool, "verify", section, source),
         Command("sf_tool dump", tool, "dump", section),
         *(Command("sf_tool lookup, of one address", tool, "lookup", section, it) for it in function[1:2]),

@@ -137,6 +137,7 @@ def large_runs(tool, room):
     yield b"linkplt o@0x50000000 eh-amd64:e@0x40000000", of_inputs
     yield b"merge o@0x50000000 s@0x50000000", of_section
     yield b"slim o@0x50000000 s@0x50000000", of_section
+    yield b"upgrade o@0x50000000 s@0x50000000", of_section
     yield b"dump s@0x50000000", of_section
     yield b"lookup s@0x50000000 0x1005", of_section
     yield b"verify s@0x50000000 eh-amd64:e@0x40000000", {**of_inputs, **of_section}

@@ -401,6 +401,19 @@ def slim_of_all_rows(size):
     return ["slim", "OUT@0x50000000", "IN@0x40000000"], {"IN": all_rows(size)}
 
 
+def upgrade_of_shared_rows(size):
+    return ["upgrade", "OUT@0x50000000", "IN@0x40000000"], {"IN": shared_rows(size)}
+
+
+def upgrade_of_all_rows(size):
+    return ["upgrade", "OUT@0x50000000", "IN@0x40000000"], {"IN": all_rows(size)}
+
+
+def upgrade_of_a_long_function(size):
+    """It has more than 65,535 rows, and is refused."""
+    return ["upgrade", "OUT@0x50000000", "IN@0x0"], {"IN": long_function(size // 6)}
+
+
 def merge_of_all_rows(size):
     return ["merge", "OUT@0x50000000", "IN@0x40000000"], {"IN": all_rows(size)}
 

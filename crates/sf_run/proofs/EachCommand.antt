@@ -8,9 +8,10 @@ use Rattle.section_commands.proofs.MergeComes.{merge_comes_to_one}
 use Rattle.section_commands.proofs.ProcwalkComes.{procwalk_comes_to_one}
 use Rattle.section_commands.proofs.ShownComes.{dump_comes_to_one, lookup_comes_to_one}
 use Rattle.section_commands.proofs.SlimComes.{slim_comes_to_one}
+use Rattle.section_commands.proofs.UpgradeComes.{upgrade_comes_to_one}
 use Rattle.section_commands.proofs.WalkComes.{walk_comes_to_one}
 use Rattle.sf_run.specs.Comes.{AreItems, Comes, command_limit}
-use Rattle.sf_run.specs.Commands.{CommandComes, CommandWords, IsCommand, files_of_command, Link, LinkPlt, Merge, Slim, Dump, Lookup, Verify, Walk, Backtrace, Procwalk, Procbacktrace, Gen}
+use Rattle.sf_run.specs.Commands.{CommandComes, CommandWords, IsCommand, files_of_command, Link, LinkPlt, Merge, Slim, Upgrade, Dump, Lookup, Verify, Walk, Backtrace, Procwalk, Procbacktrace, Gen}
 use Rattle.sf_run.proofs.LinkingCommands.{backtrace_comes_to_one, gen_comes_to_one, link_comes_to_one, link_plt_comes_to_one, verify_comes_to_one}
 use Rattle.sf_run.proofs.ProcbacktraceComes.{procbacktrace_comes_to_one}
 
@@ -19,6 +20,7 @@ comes_to_one (Link link) = link_comes_to_one link
 comes_to_one (LinkPlt link) = link_plt_comes_to_one link
 comes_to_one (Merge merge) = merge_comes_to_one merge
 comes_to_one (Slim slim) = slim_comes_to_one slim
+comes_to_one (Upgrade upgrade) = upgrade_comes_to_one upgrade
 comes_to_one (Dump section) = dump_comes_to_one section
 comes_to_one (Lookup lookup) = lookup_comes_to_one lookup
 comes_to_one (Verify verify) = verify_comes_to_one verify

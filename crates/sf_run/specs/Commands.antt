@@ -9,6 +9,7 @@ use Rattle.section_commands.specs.Lookup.{IsLookup, LookupComes, LookupWords, lo
 use Rattle.section_commands.specs.Merge.{IsMerge, MergeComes, MergeWords, merge_files, merge_of}
 use Rattle.section_commands.specs.Procwalk.{IsProcwalk, ProcwalkComes, ProcwalkWords, procwalk_files, procwalk_of}
 use Rattle.section_commands.specs.Slim.{IsSlim, SlimComes, SlimWords, slim_files, slim_of}
+use Rattle.section_commands.specs.Upgrade.{IsUpgrade, UpgradeComes, UpgradeWords, upgrade_files, upgrade_of}
 use Rattle.section_commands.specs.Walk.{IsWalk, WalkComes, WalkWords, walk_files, walk_of}
 use Rattle.sf_run.specs.declared.command.Command.{Command}
 use Rattle.sf_run.specs.declared.command.Command.TheVariants as command
@@ -25,6 +26,7 @@ pub data CommandWords : Type 0 where
   LinkPlt : SectionAndInputs → CommandWords
   Merge : MergeWords → CommandWords
   Slim : SlimWords → CommandWords
+  Upgrade : UpgradeWords → CommandWords
   Dump : SectionWords → CommandWords
   Lookup : LookupWords → CommandWords
   Verify : SectionAndInputs → CommandWords
@@ -40,6 +42,7 @@ IsCommand words (Link link) = IsLink words link
 IsCommand words (LinkPlt link) = IsLinkPlt words link
 IsCommand words (Merge merge) = IsMerge words merge
 IsCommand words (Slim slim) = IsSlim words slim
+IsCommand words (Upgrade upgrade) = IsUpgrade words upgrade
 IsCommand words (Dump section) = IsDump words section
 IsCommand words (Lookup lookup) = IsLookup words lookup
 IsCommand words (Verify verify) = IsVerify words verify
@@ -55,6 +58,7 @@ files_of_command (Link link) = link_files link
 files_of_command (LinkPlt link) = link_files link
 files_of_command (Merge merge) = merge_files merge
 files_of_command (Slim slim) = slim_files slim
+files_of_command (Upgrade upgrade) = upgrade_files upgrade
 files_of_command (Dump section) = dump_files section
 files_of_command (Lookup lookup) = lookup_files lookup
 files_of_command (Verify verify) = verify_files verify
@@ -70,6 +74,7 @@ CommandComes (Link link) items coming = LinkComes link items coming
 CommandComes (LinkPlt link) items coming = LinkPltComes link items coming
 CommandComes (Merge merge) items coming = MergeComes merge items coming
 CommandComes (Slim slim) items coming = SlimComes slim items coming
+CommandComes (Upgrade upgrade) items coming = UpgradeComes upgrade items coming
 CommandComes (Dump section) items coming = DumpComes section items coming
 CommandComes (Lookup lookup) items coming = LookupComes lookup items coming
 CommandComes (Verify verify) items coming = VerifyComes verify items coming
@@ -85,6 +90,7 @@ words_of (command.Link link) = Link (section_and_inputs_of link)
 words_of (command.LinkPlt link) = LinkPlt (section_and_inputs_of link)
 words_of (command.Merge merge) = Merge (merge_of merge)
 words_of (command.Slim slim) = Slim (slim_of slim)
+words_of (command.Upgrade upgrade) = Upgrade (upgrade_of upgrade)
 words_of (command.Dump dump) = Dump (dump_of dump)
 words_of (command.Lookup lookup) = Lookup (lookup_of lookup)
 words_of (command.Verify verify) = Verify (section_and_inputs_of verify)

@@ -12,7 +12,7 @@ ghost use Rattle.sf_run.specs.Commands.{CanBeAsked, CommandWords, IsCommand, fil
 use crate::backtrace::Backtrace;
 use crate::object::Gen;
 use crate::{link, procbacktrace, verify};
-use section_commands::{Dump, Lookup, Made, Merge, Procwalk, Slim, Unmade, Walk};
+use section_commands::{Dump, Lookup, Made, Merge, Procwalk, Slim, Unmade, Upgrade, Walk};
 use sf_words::{CommandFiles, Loaded, Refusal, SectionAndInputs, section_and_inputs};
 use std::alloc::Global;
 
@@ -30,6 +30,9 @@ pub enum Command<'a> {
     Merge(Merge<'a>),
     /// `slim OUT@AT FILE@AT` writes a section that recovers the same, without redundant rows. It prints both lengths.
     Slim(Slim<'a>),
+    /// `upgrade OUT@AT FILE@AT` writes the Version 3 section that recovers the same. GNU binutils from 2.46 on read Version 3
+    /// only.
+    Upgrade(Upgrade<'a>),
     /// `dump FILE@AT` prints a section. The text has its functions and rows.
     Dump(Dump<'a>),
     /// `lookup FILE@AT PC` prints the row that holds at PC. If there is no such row, it prints `none`, and the status is 1.
@@ -71,6 +74,9 @@ pub fn command_words(words: &[String]) -> Option<Command<'_>>
     }
     if let Some(slim) = Slim::read(words) {
         return Some(Command::Slim(slim));
+    }
+    if let Some(upgrade) = Upgrade::read(words) {
+        return Some(Command::Upgrade(upgrade));
     }
     if let Some(dump) = Dump::read(words) {
         return Some(Command::Dump(dump));
@@ -117,6 +123,7 @@ impl<'a> Command<'a> {
             Command::LinkPlt(named) => link::files(named),
             Command::Merge(merge) => merge.files(),
             Command::Slim(slim) => slim.files(),
+            Command::Upgrade(upgrade) => upgrade.files(),
             Command::Dump(dump) => dump.files(),
             Command::Lookup(lookup) => lookup.files(),
             Command::Verify(named) => verify::files(named),
@@ -148,6 +155,7 @@ impl<'a> Command<'a> {
             Command::LinkPlt(named) => or_refused(link::make_with_plts(alloc, named, loaded)),
             Command::Merge(merge) => or_refused(merge.make(alloc, loaded)),
             Command::Slim(slim) => or_refused(slim.make(alloc, loaded)),
+            Command::Upgrade(upgrade) => or_refused(upgrade.make(alloc, loaded)),
             Command::Dump(dump) => or_refused(dump.make(loaded)),
             Command::Lookup(lookup) => or_refused(lookup.make(alloc, loaded)),
             Command::Verify(named) => or_refused(verify::make(alloc, named, loaded)),

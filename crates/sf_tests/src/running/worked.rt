@@ -11,7 +11,7 @@ pub struct Worked {
     pub text: &'static str,
 }
 
-pub const WORKED: [Worked; 13] = [
+pub const WORKED: [Worked; 14] = [
     Worked {
         words: "link o@0x3000 eh-amd64:e@0x2000",
         reads: &[("e", ONE_FUNCTION, &[])],
@@ -38,6 +38,12 @@ pub const WORKED: [Worked; 13] = [
         reads: &[("s", ONE_FUNCTION_SECTION, &[])],
         section: Some(ONE_FUNCTION_SECTION),
         text: "slim 63 63 functions 1 rows 4\n",
+    },
+    Worked {
+        words: "upgrade o@0x3000 s@0x3000",
+        reads: &[("s", ONE_FUNCTION_SECTION, &[])],
+        section: Some(ONE_FUNCTION_UPGRADED),
+        text: "upgraded 1 functions 4 rows\n",
     },
     Worked {
         words: "dump s@0x3000",
@@ -124,6 +130,10 @@ const ONE_FUNCTION: &str = "14 00*7 01 7a 52 00 01 78 10 01 1b 0c 07 08 90 01 00
 /// Its section at 0x3000.
 const ONE_FUNCTION_SECTION: &str = "e2 de 02 05 03 00 f8 00 01 00*3 04 00*3 0f 00*7 14 00*3 \
      e4 df ff ff 06 00*7 04 00*7 00 03 08 01 05 10 f0 04 04 10 f0 05 05 08 f0";
+
+/// Its Version 3 section for that address.
+const ONE_FUNCTION_UPGRADED: &str = "e2 de 03 05 03 00 f8 00 01 00*3 04 00*3 14 00*7 10 00*3 \
+     e4 df ff*6 06 00*7 04 00*4 00 03 08 01 05 10 f0 04 04 10 f0 05 05 08 f0";
 
 /// No functions, for AMD64.
 const NO_FUNCTIONS_SECTION: &str = "e2 de 02 05 03 00 f8 00*21";
