@@ -7,7 +7,7 @@
 AT is the first page after a file's last loaded byte, and counts from the file's load address. The section is marked as loaded, so strip and
 eu-strip keep it, but no segment holds it. A file is replaced only after its table was read back out of the new file and compared by
 `sf_tool verify`, and if nothing else was changed that is loaded. It keeps mode, owner, extended attributes and hard links. A table that a store
-has counts only if `sf_tool verify` agrees.
+has counts only if `sf_tool verify` agrees. A table of Version 3 (--version 3) is made by `sf_tool upgrade` of a table that `verify` compared.
 
 Symbolic links below a folder aren't followed. Files that have a table, debug-only files and objects are passed over. A refused file
 is unchanged: `sf_tool` can't link it, or objcopy would change more than it has to. The last lines are a summary.
@@ -181,6 +181,7 @@ def main(words):
     stores.add_argument("--into-store", metavar="STORE", help="the folder of a store to write tables to")
     stores.add_argument("--from-store", metavar="STORE", help="the folder of a store to find tables in")
     parser.add_argument("--plt", dest="command", action="store_const", const="linkplt", default="link", help="adds rows for plain lazy .plts, as linkplt does")
+    parser.add_argument("--version", type=int, choices=(2, 3), default=2, help="of the tables: GNU binutils from 2.46 on read 3 only; sf_tool reads 2 only")
     parser.add_argument("--again", action="store_true", help="replaces a table that a file or the store has")
     parser.add_argument("--lenient", action="store_true", help="the status is 0 also if files are refused or have none, and 1 if one failed")
     parser.add_argument("-j", dest="jobs", metavar="N", type=jobs, default=os.cpu_count(), help="files in parallel, by default as many as processors")

@@ -9,6 +9,8 @@ MACHINES = {62: "amd64", 183: "aarch64"}
 ET_REL, ET_EXEC, ET_DYN = 1, 2, 3
 PT_LOAD, PT_NOTE, PN_XNUM = 1, 4, 0xFFFF
 SHT_SYMTAB, SHT_STRTAB, SHT_NOBITS, SHN_XINDEX = 2, 3, 8, 0xFFFF
+# Of a section of SFrame Version 3 (GNU binutils from 2.46 on).
+SHT_GNU_SFRAME = 0x6FFFFFF4
 SHF_ALLOC, SHF_EXECINSTR = 2, 4
 NT_GNU_BUILD_ID = 3
 PAGE = 4096
@@ -125,6 +127,12 @@ def sections(file):
         return []
     texts = read_at(file, *headers[names][4:6])
     return [Section(name_in(texts, it[0]), *it[1:6]) for it in headers]
+
+
+def place_of_section_header(file, name):
+    """The offset of the section header of this name in an open ELF file that has one."""
+    number = [it.name for it in sections(file)].index(name)
+    return struct.unpack("<Q", read_at(file, 40, 8))[0] + struct.unpack("<H", read_at(file, 58, 2))[0] * number
 
 
 def name_in(texts, at):

@@ -4,14 +4,15 @@ import collections
 import filecmp
 import os
 import shutil
+import struct
 import subprocess
 import tempfile
 
 from kiblawen import common, elf, program, replacing
 
 SECTION = ".sframe"
-# The first bytes of a table, and the number of the version after them.
-MAGIC, VERSION = b"\xe2\xde", 2
+# The first bytes of a table. The number of its version is after them.
+MAGIC = b"\xe2\xde"
 CHUNK = 1 << 20
 # The status of `sf_tool` for a file that it can't link: malformed or out of reach, and past a limit.
 REFUSALS = ("status 5:", "status 7:")
@@ -48,6 +49,28 @@ def make(tool, command, path, out):
     if not kept:
         raise Stop("empty")
     return at, kept, collections.Counter(it.reason for it in omitted.values())
+
+
+def verify(given, table, at, path):
+    """Compares a table of Version 2 with the call frame information of a file."""
+    run(given.tool, "verify", f"{table}@{at:#x}", f"{path}@{elf.BASE:#x}")
+
+
+def of_version(given, table, at, path):
+    """The table of the version that is asked for, made of a table of Version 2 that is compared with the file."""
+    verify(given, table, at, path)
+    if given.version == 2:
+        return table
+    upgraded = f"{table}.3"
+    run(given.tool, "upgrade", f"{upgraded}@{at:#x}", f"{table}@{at:#x}")
+    return upgraded
+
+
+def mark(path):
+    """Gives the table of a file the section type by which readers of Version 3 find it."""
+    with open(path, "r+b") as file:
+        file.seek(elf.place_of_section_header(file, SECTION) + 4)
+        file.write(struct.pack("<I", elf.SHT_GNU_SFRAME))
 
 
 def same(one, start, other, other_start, length):
@@ -125,22 +148,22 @@ def version_of(content):
     return content[2] if content[:2] == MAGIC and len(content) > 2 else None
 
 
-def check_version(content):
-    """Stops with what is said of a file that has this table already."""
+def check_version(content, wanted):
+    """Stops with what is said of a file that has this table already, where one of the version `wanted` is asked for."""
     version = version_of(content)
     if version is None:
         raise Stop("refused", f"its {SECTION} is no SFrame section")
-    raise Stop("had") if version == VERSION else Stop("other", f"its table has Version {version}")
+    raise Stop("had") if version == wanted else Stop("other", f"its table has Version {version}")
 
 
-def look(file, again):
+def look(file, given):
     """Checks that an open file can have a table added."""
     sections, size = elf.sections(file), os.fstat(file.fileno()).st_size
     if is_debug(sections):
         raise Stop("debug")
     found = table_in(sections)
-    if found and not again:
-        check_version(elf.read_at(file, found.offset, 3))
+    if found and not given.again:
+        check_version(elf.read_at(file, found.offset, 3), given.version)
     if found and any(kind == elf.PT_LOAD and start <= found.start < start + size for kind, _, start, _, size in elf.segments(file)):
         raise Stop("refused", f"its linker has put {SECTION} into a loaded segment")
     if elf.end(file, sections) < size:
@@ -166,15 +189,17 @@ def read_back(path, at, table, back):
 def into_file(given, found):
     """Adds the table of a file to it."""
     with replacing.opened(found) as original, tempfile.TemporaryDirectory(prefix=replacing.ROOM) as room:
-        look(original.file, given.again)
+        look(original.file, given)
         if original.before.st_nlink != len(found.names):
             raise Stop("refused", f"{original.before.st_nlink} hard links name it, and {len(found.names)} of them were found")
         old, table, new, back = (os.path.join(room, name) for name in ("old", "table", "new", "back"))
         original.copy(old)
         at, kept, reasons = make(given.tool, given.command, old, table)
+        table = of_version(given, table, at, old)
         add_section(given, at, table, old, new)
         read_back(new, at, table, back)
-        run(given.tool, "verify", f"{back}@{at:#x}", f"{new}@{elf.BASE:#x}")
+        if given.version == 2:
+            verify(given, back, at, new)
         original.replace(new)
         return Table(kept, reasons, os.path.getsize(back), original.before.st_size, os.path.getsize(new))
 
@@ -187,6 +212,8 @@ def add_section(given, at, table, old, new):
         compare_headers(before, changed)
         compare_images(before, changed)
         compare_sections(before, changed)
+    if given.version == 3:
+        mark(new)
 
 
 def place(store, file):
@@ -197,19 +224,30 @@ def place(store, file):
     return os.path.join(store, found[:2], f"{found[2:]}.sframe")
 
 
-def check_kept(tool, table, old, room):
+def check_kept(given, table, old, room):
     """Stops with what is said of a file whose table a store has: another file may have claimed its build identifier."""
-    kept = os.path.join(room, "kept")
+    kept, at = os.path.join(room, "kept"), elf.page_after(old)
     shutil.copyfile(table, kept)
     with open(kept, "rb") as file:
         version = version_of(file.read(3))
-    if version not in (None, VERSION):
+    if version not in (None, given.version):
         raise Stop("other", f"{table} has Version {version}")
     try:
-        run(tool, "verify", f"{kept}@{elf.page_after(old):#x}", f"{old}@{elf.BASE:#x}")
+        if given.version == 2:
+            verify(given, kept, at, old)
+        else:
+            check_made_anew(given, kept, old, room)
     except Stop as stop:
         raise Stop("refused", f"{table} is the table of another file: {stop.why}") from None
     raise Stop("had")
+
+
+def check_made_anew(given, kept, old, room):
+    """Checks that a table of Version 3, which `sf_tool verify` doesn't read, has the bytes that are made of the file now."""
+    anew = os.path.join(room, "anew")
+    at, _, _ = make(given.tool, given.command, old, anew)
+    if not filecmp.cmp(of_version(given, anew, at, old), kept, shallow=False):
+        raise Stop("refused", "other bytes are made of it")
 
 
 def into_store(given, found):
@@ -221,9 +259,9 @@ def into_store(given, found):
         old, table = os.path.join(room, "old"), os.path.join(room, "table")
         original.copy(old)
         if os.path.exists(to) and not given.again:
-            check_kept(given.tool, to, old, room)
+            check_kept(given, to, old, room)
         at, kept, reasons = make(given.tool, given.command, old, table)
-        run(given.tool, "verify", f"{table}@{at:#x}", f"{old}@{elf.BASE:#x}")
+        table = of_version(given, table, at, old)
         os.makedirs(os.path.dirname(to), exist_ok=True)
         replacing.put(table, to, 0o644)
         size, whole = os.path.getsize(table), original.before.st_size
@@ -238,7 +276,7 @@ def from_store(given, found):
             raise Stop("failed", f"{table} is not there")
         original.copy(old)
         try:
-            check_kept(given.tool, table, old, room)
+            check_kept(given, table, old, room)
         except Stop as stop:
             if stop.state != "had":
                 raise
