@@ -10,6 +10,8 @@ What is compared:
   whether it is kept, the canonical frame address, the return address and the frame pointer at each offset, or the offset of the first
   row that SFrame cannot express;
 - sections: functions and rows with what `objdump --sframe` shows for the same section, if this objdump reads this version;
+- versions: what `readelf --sframe` prints of a section and of the Version 3 section that `upgrade` makes of it, if this readelf, or the one of
+  --readelf WORDS, is of GNU binutils from 2.46 on (versions.py);
 - assembled sections: with the `.sframe` that `as --gsframe` writes, if this assembler writes this version;
 - walks: the program counters of a core file's thread with those that gdb and eu-stack show, if available;
 - processes: the program counters from `procwalk` and `procbacktrace` with those of gdb and eu-stack, if a file was also mapped as data, two files
@@ -27,11 +29,13 @@ import shutil
 import subprocess
 import tempfile
 
-from kiblawen import common, elf, processes, program, stacks
+from kiblawen import common, elf, processes, program, stacks, versions
 
 # The registers of the two machines, as readelf names them, and the return address column.
 STACK, FRAME, COLUMN = {"amd64": "rsp", "aarch64": "sp"}, {"amd64": "rbp", "aarch64": "x29"}, {"amd64": 16, "aarch64": 30}
 RECORD = re.compile(r"^([0-9a-f]{8,}) [0-9a-f]+ [0-9a-f]+ (?:CIE \"([^\"]*)\".* ra=(\d+)|FDE cie=([0-9a-f]+) pc=([0-9a-f]+)\.\.([0-9a-f]+))")
+# Files of which both versions of the table are compared.
+LARGE = ["/usr/lib/x86_64-linux-gnu/" + name for name in ("libc.so.6", "libstdc++.so.6", "libcrypto.so.3")] + ["/usr/bin/python3.11"]
 SMALL = ["/bin/sh", "/lib/x86_64-linux-gnu/libc.so.6", "/lib/x86_64-linux-gnu/libgcc_s.so.1"]
 SOURCE = """
 extern int g(int);
@@ -292,6 +296,7 @@ def main(words):
     parser = common.parser(__name__, __doc__)
     program.add_option(parser)
     parser.add_argument("--small", action="store_true")
+    parser.add_argument("--readelf", metavar="WORDS", default="readelf", help="such as that of binutils unpacked beside the system, with its loader")
     parser.add_argument("files", nargs="*", metavar="FILE")
     given = parser.parse_args(words)
     tool, found = program.find(__name__, given.tool), Found()
@@ -306,6 +311,8 @@ def main(words):
         with concurrent.futures.ProcessPoolExecutor(os.cpu_count()) as workers:
             for one in workers.map(compare_rows, [tool] * len(paths), paths):
                 found.add(one)
+        large = [it for it in LARGE[: 1 if given.small else None] if os.path.exists(it)]
+        versions.compare_versions(found, tool, room, given.readelf, paths if given.files else large)
         if not given.files:
             compare_assembled(found, tool, room)
             compare_walks(found, tool, room)
