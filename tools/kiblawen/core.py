@@ -16,6 +16,7 @@ Standard error has a line `unused FILE: why` for each file with code that isn't 
 that of `sf_tool`: 0 if the stacks were printed. It is 5 if CORE is no core file, or none of its files can be used, and 2 if the arguments are wrong.
 """
 
+import bisect
 import collections
 import contextlib
 import itertools
@@ -31,12 +32,13 @@ from kiblawen import common, core_file, elf, program, symbols, tables
 
 NAME = "kiblawen-core"
 REFUSED = 5
-# The files that a run of the program takes, the names that are tried, the parts of a name, the addresses that are named, and the kept output.
-MOST_FILES, MOST_NAMES, MOST_PARTS, MOST_ADDRESSES = 511, 4096, 32, 1 << 16
+# The files that a run of the program takes, the names that are tried, the parts of a name, the segments of a file, the addresses that are named.
+MOST_FILES, MOST_NAMES, MOST_PARTS, MOST_LOADS, MOST_ADDRESSES = 512, 4096, 32, 256, 1 << 16
 DEPTHS = range(1, 1025)
 FOLDERS = ("usr/lib/debug/.build-id", "usr/lib/.build-id")
 # Folders of the kernel's: to open or read a file there may do something.
 KERNEL = (b"/proc/", b"/sys/", b"/dev/")
+DELETED = b" (deleted)"
 FRAME = re.compile(r" +#(\d+) pc (0x[0-9a-f]+)")
 ITEM = re.compile(r"(?:refused|limit file) (\d+)\b")
 
@@ -54,6 +56,11 @@ class Data(Unused):
 
 def text_of(name):
     return os.fsdecode(name)
+
+
+def without_mark(name):
+    """A mapped file's name without the kernel's mark of one that was deleted or replaced."""
+    return name[: -len(DELETED)] if name.endswith(DELETED) else name
 
 
 def opened(path):
@@ -87,22 +94,28 @@ def by_build_id(folders, wanted, ending=""):
     return None
 
 
+def file_of_build(path, wanted, has_to_have):
+    """Checks that a file is the build with an identifier, if both are known, or if it has to be known."""
+    with opened(path) as file:
+        found = elf.build_id_of(file)
+    if found != wanted and (found and wanted or has_to_have):
+        raise Unused(f"it has the build identifier {found}, and the process had {wanted}")
+    return path
+
+
 def file_for(core, given, mapping):
     """The file to use for a mapped one: that of its name, unless the core file has another build identifier there."""
     wanted = core.build_id_at(mapping.start) if mapping.offset == 0 else None
+    name = without_mark(mapping.name)
+    path = below(given.root, name)
     try:
-        path = below(given.root, mapping.name)
-        with opened(path) as file:
-            found = elf.build_id_of(file)
-        if wanted is None or found in (None, wanted):
-            return path
-        why = f"it has the build identifier {found}, and the process had {wanted}"
-    except OSError as fault:
-        why = fault.strerror
-    path = by_build_id(given.folders, wanted) if wanted else None
-    if not path:
-        raise Unused(why)
-    return path
+        # Of a name that was deleted any build may be there by now.
+        return file_of_build(path, wanted, name != mapping.name)
+    except (OSError, Unused) as why:
+        found = by_build_id(given.folders, wanted) if wanted else None
+        if found:
+            return found
+        raise why if isinstance(why, Unused) else Unused(why.strerror) from None
 
 
 def module_for(core, given, mapping):
@@ -111,7 +124,9 @@ def module_for(core, given, mapping):
         if tables.is_debug(elf.sections(file)):
             raise Data("it is a debug file")
         found = elf.build_id_of(file)
-        loads = [(it.offset, it.length, it.start) for it in elf.program_headers(file) if it.kind == elf.PT_LOAD]
+        loads = sorted((it.offset, it.length, it.start) for it in elf.program_headers(file) if it.kind == elf.PT_LOAD)
+    if len(loads) > MOST_LOADS:
+        raise Unused(f"it has more than {MOST_LOADS} loaded segments")
     return Module(path, by_build_id(given.folders, found, ".debug") if found else None, loads)
 
 
@@ -150,7 +165,7 @@ class Run:
         self.room, self.words, self.names = room, [], {}
         self.core = self.link(given.core, "core")
         for at, (name, module) in enumerate(modules.items()):
-            parts = [it for it in text_of(name).split("/") if it][-MOST_PARTS:]
+            parts = [it for it in text_of(without_mark(name)).split("/") if it][-MOST_PARTS:]
             with contextlib.suppress(OSError):
                 word = self.link(module.path, str(at), *parts)
                 word.encode()
@@ -205,8 +220,9 @@ def address_in(core, modules, address):
     if not module:
         return None
     place = address - mapping.start + mapping.offset
-    found = next((start + place - offset for offset, length, start in module.segments if offset <= place < offset + length), None)
-    return None if found is None else (mapping.name, found)
+    at = bisect.bisect_right(module.segments, (place, 1 << 64)) - 1
+    offset, length, start = module.segments[at] if at >= 0 else (0, 0, 0)
+    return (mapping.name, start + place - offset) if place < offset + length else None
 
 
 def name_all(core, modules, given, said):
