@@ -14,6 +14,7 @@
 #include <stdio.h>
 #include <stdlib.h>
 #include <string.h>
+#include <unistd.h>
 
 #include "kiblawen-link.h"
 
@@ -422,6 +423,7 @@ static void stacks(const struct kiblawen_section *section)
 
 static int check_place(struct dl_phdr_info *info, size_t size, void *data)
 {
+    const uint64_t page = (uint64_t)sysconf(_SC_PAGESIZE);
     struct kiblawen_placed placed = {0};
     char path[4096] = "/proc/self/exe";
     (void)size, (void)data;
@@ -435,19 +437,51 @@ static int check_place(struct dl_phdr_info *info, size_t size, void *data)
         const ElfW(Phdr) *it = &info->dlpi_phdr[i];
         if (it->p_type != PT_LOAD)
             continue;
-        first = first < it->p_vaddr / PAGE * PAGE ? first : it->p_vaddr / PAGE * PAGE;
+        first = first < it->p_vaddr / page * page ? first : it->p_vaddr / page * page;
         end = it->p_vaddr + it->p_memsz;
         if (it->p_flags & PF_X) {
-            uint64_t offset = it->p_offset / PAGE * PAGE, start = info->dlpi_addr + it->p_vaddr / PAGE * PAGE;
-            CHECK(kiblawen_place(input.bytes, input.len, PAGE, start, offset, &placed) == KIBLAWEN_MADE);
+            uint64_t offset = it->p_offset / page * page, start = info->dlpi_addr + it->p_vaddr / page * page;
+            CHECK(kiblawen_place(input.bytes, input.len, page, start, offset, &placed) == KIBLAWEN_MADE);
             CHECK(placed.has_load == 1 && placed.load == info->dlpi_addr);
         }
     }
-    CHECK(placed.first == first && placed.after == (end + PAGE - 1) / PAGE * PAGE);
+    CHECK(placed.first == first && placed.after == (end + page - 1) / page * page);
     CHECK(placed.build_id_len == 0 || (placed.build_id_len == 20 && placed.build_id + 20 <= input.len));
-    CHECK(kiblawen_place(input.bytes, input.len, PAGE, 0, input.len, &placed) == KIBLAWEN_MADE && placed.has_load == 0 && placed.load == 0);
+    CHECK(kiblawen_place(input.bytes, input.len, page, 0, input.len, &placed) == KIBLAWEN_MADE && placed.has_load == 0 && placed.load == 0);
     free((void *)input.bytes);
     return 0;
+}
+
+/* Mappings of a file with two executable segments, as lld packs them: .text, and a segment that is writable too. */
+static void check_segments(void)
+{
+    enum { TEXT = 1, OTHER = 2, FIRST = 0x17a0, SECOND = 0x2990 };
+    static const struct { uint32_t executable; uint64_t page, start, offset, load; bool has_load; } mappings[] = {
+        /* The page at 0 has bytes of both: only one of them is executable, or it isn't known which one is mapped. */
+        {TEXT, 4096, 0x5000, 0, 0x4000, true},        {OTHER, 4096, 0x5000, 0, 0x3000, true},
+        {TEXT | OTHER, 4096, 0x5000, 0, 0, false},    {0, 4096, 0x5000, 0, 0, false},
+        /* The last byte of that page, and the first one after it. */
+        {TEXT, 4096, 0x5fff, 0xfff, 0x4000, true},    {TEXT | OTHER, 4096, 0x5fff, 0xfff, 0, false},
+        {TEXT, 4096, 0x6000, 0x1000, 0, false},       {OTHER, 4096, 0x6000, 0x1000, 0, false},
+        /* With pages of one byte each segment has its own, from p_offset to before p_offset + p_filesz. */
+        {TEXT | OTHER, 1, 0x57a0, 0x7a0, 0x4000, true}, {TEXT | OTHER, 1, 0x598f, 0x98f, 0x4000, true},
+        {TEXT | OTHER, 1, 0x6990, 0x990, 0x4000, true}, {TEXT | OTHER, 1, 0x6998, 0x998, 0x4000, true},
+        {TEXT | OTHER, 1, 0x6999, 0x999, 0, false},   {TEXT | OTHER, 1, 0x579f, 0x79f, 0, false},
+        /* At fixed addresses, below them (modulo 2^64), and in a page of 64 KiB. */
+        {TEXT, 4096, 0x1000, 0, 0, true},             {TEXT, 4096, 0, 0, -0x1000ull, true},
+        {OTHER, 4096, 0x1000, 0, -0x1000ull, true},   {TEXT, 65536, 0x20000, 0, 0x1f000, true},
+        {TEXT | OTHER, 65536, 0x20000, 0, 0, false},
+    };
+    for (size_t i = 0; i < sizeof mappings / sizeof mappings[0]; i++) {
+        struct { ElfW(Ehdr) header; ElfW(Phdr) segments[2]; } made = {
+            {.e_ident = ELFMAG "\2\1\1", .e_type = ET_DYN, .e_machine = EM_X86_64, .e_version = 1, .e_phoff = sizeof made.header,
+             .e_ehsize = sizeof made.header, .e_phentsize = sizeof made.segments[0], .e_phnum = 2},
+            {{PT_LOAD, mappings[i].executable & TEXT ? PF_R | PF_X : PF_R, 0x7a0, FIRST, FIRST, 0x1f0, 0x1f0, 4096},
+             {PT_LOAD, mappings[i].executable & OTHER ? PF_R | PF_W | PF_X : PF_R, 0x990, SECOND, SECOND, 9, 9, 4096}}};
+        struct kiblawen_placed placed;
+        uint32_t answer = kiblawen_place((const uint8_t *)&made, sizeof made, mappings[i].page, mappings[i].start, mappings[i].offset, &placed);
+        CHECK(answer == KIBLAWEN_MADE && placed.has_load == mappings[i].has_load && placed.load == mappings[i].load);
+    }
 }
 
 static void print_build_id(const char *folder)
@@ -488,6 +522,7 @@ int main(int argc, char **argv)
     stacks(&section);
 #endif
     dl_iterate_phdr(check_place, NULL);
+    check_segments();
     print_build_id(argv[3]);
     printf("c-library-link: %u tried, %u wrong\n", tried, wrong);
     return wrong != 0;

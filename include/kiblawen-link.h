@@ -189,18 +189,21 @@ struct kiblawen_placed {
     uint64_t first;      /* the page of the first loaded segment: 0 in most files */
     uint64_t after;      /* the first page after the last loaded byte, where its table can be */
     uint64_t load;       /* what is added to the file's addresses: the base of an input, by the mapping; or 0 */
-    uint32_t has_load;   /* 0 if no executable segment can be mapped so */
+    uint32_t has_load;   /* 1 if exactly one executable segment can be mapped so */
     uint64_t build_id;   /* the place in the file of its build identifier (NT_GNU_BUILD_ID) */
     size_t build_id_len; /* 0 if it has none */
     struct kiblawen_refusal why;
 };
 
 /*
- * Reads where an ELF file is loaded, by the size of a page and an executable mapping: its first address `start`, and the
- * place in the file of its first byte, `offset` (the first and third field of a line of /proc/PID/maps, or those of perf's
- * record of a mapping). The file is at the addresses `load + first` to before `load + after`.
+ * Reads where an ELF file is loaded, by the size of a page, sysconf(_SC_PAGESIZE), and an executable mapping: its first
+ * address `start`, and the place in the file of its first byte, `offset` (the first and third field of a line of
+ * /proc/PID/maps, or those of perf's record of a mapping). The file is at the addresses `load + first` to before
+ * `load + after`.
  *
  * The load address isn't the start of the first mapping: for a program that isn't position-independent it is 0.
+ * A segment can be mapped so if its pages have the byte at `offset`: then load + p_vaddr + (offset - p_offset) is `start`,
+ * modulo 2^64. There is no load address if none can, or several can.
  *
  * KIBLAWEN_UNFIT: a page of 0 bytes, or a file of 2^32 bytes or more.
  */

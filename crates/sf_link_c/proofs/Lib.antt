@@ -5,3 +5,4 @@ pub mod Slimmed
 pub mod Verified
 pub mod Merged
 pub mod Tables
+pub mod Placed

@@ -1,5 +1,5 @@
 -- Where a file is loaded, as C has it (ELF64 gABI, "Program Header" and "Note Section").
-use Rattle.std.specs.Prelude.{ℕ, ◌^◌, nat_lt, ◌&&◌, Bool, List, length, Some, Result, Ok, Err, is_some, unwrap_or, if◌then◌else◌}
+use Rattle.std.specs.Prelude.{ℕ, ◌^◌, ◌==◌, nat_lt, ◌&&◌, Bool, List, length, Option, Some, None, Result, Ok, Err, is_some, unwrap_or, if◌then◌else◌}
 use Rattle.std.specs.Option.{option_map_or}
 use Rattle.sf_bytes.specs.Cursor.{Cursor}
 use Rattle.elf_read.specs.declared.fault.ElfFault.{ElfFault}
@@ -31,6 +31,10 @@ place_shown loading = record {
   build_id_len = option_map_or (λ (id : Cursor). length id.left) loading.build_id 0;
   why = no_refusal;
 }
+
+-- the load address that C has, if there is one
+abbrev pub load_in : KiblawenPlaced → Option ℕ
+load_in place = if place.has_load == 0 then None else Some place.load
 
 -- the file is refused for a fault; it is the only item
 abbrev pub refused_file : ElfFault → KiblawenPlaced

@@ -2,6 +2,7 @@
 
 ghost use Rattle.std.specs.Prelude.{◌≡◌};
 ghost use Rattle.elf_load.specs.Loading.{loading_seen, loading_view};
+ghost use Rattle.elf_load.specs.Segments.{IsLoadOf};
 ghost use Rattle.sf_link_c.specs.Placing as spec;
 
 use crate::answer::{MADE, NOT_LOADED, REFUSED, UNFIT};
@@ -20,7 +21,7 @@ pub struct KiblawenPlaced {
     pub after: u64,
     /// The load address, which is added to the file's addresses, or 0.
     pub load: u64,
-    /// 1 if a segment can be mapped as the mapping says, else 0.
+    /// 1 if the mapping can be of exactly one segment, else 0.
     pub has_load: u32,
     /// The place of the build identifier in the file, or 0.
     pub build_id: u64,
@@ -111,7 +112,8 @@ pub extern "C" fn kiblawen_place(
     offset: u64,
     place: &mut KiblawenPlaced,
 ) -> u32
-    ensures { (result, place.new) ≡ spec.placing_answer bytes.now page start offset }
+    ensures exact { (result, place.new) ≡ spec.placing_answer bytes.now page start offset }
+    ensures load { result ≡ 0 → IsLoadOf page (record { start = start; offset = offset }) bytes.now (spec.load_in place.new) }
 {
     let (answer, found) = place_of(bytes, page, &Mapping { start, offset });
     *place = found;
