@@ -11,7 +11,7 @@ use sf_lookup::Span;
 use sf_model::{Arch, FdeFacts, Key, Regs, Stop};
 use sf_modules::{Entry, Module};
 use sframe_tests::samples::PUSHING;
-use signal_frames::{SignalFrame, signal_frame};
+use signal_frames::{SignalFrame, initial_rules, signal_frame};
 use std::test::*;
 
 /// The instructions of the `__restore_rt` of glibc 2.36 on AMD64, as `readelf --debug-dump=frames` shows them: the canonical frame
@@ -98,7 +98,7 @@ fn frame_of(signal: bool, own: &[u8]) -> Option<SignalFrame>
     signal_frame(
         Arch::Amd64,
         &facts,
-        Part::new(&[0, 0], 100),
+        &initial_rules(Part::new(&[0, 0], 100)),
         Part::new(own, 200),
     )
 }

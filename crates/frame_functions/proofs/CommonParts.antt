@@ -18,7 +18,7 @@ use Rattle.frame_functions.specs.declared.description.DescriptionItem.{Descripti
 use Rattle.frame_functions.specs.Functions.{Function}
 use Rattle.frame_functions.specs.Numbers.{AreNumbered, IsNumberOf}
 use Rattle.frame_functions.specs.ReadSoFar.{AreNumberedIn}
-use Rattle.frame_functions.specs.Descriptions.{Common, IsItemIn, CanBeRun, common_of, common_view, commons_of, function_by_item, item_function, no_common}
+use Rattle.frame_functions.specs.Descriptions.{Common, HasInitial, IsItemIn, CanBeRun, common_of, common_view, commons_of, function_by_item, item_function, no_common}
 
 -- ---- one more common part
 pub commons_more : (parts : List CommonPart) (p : CommonPart) → commons_of (parts ++ p ∷ []) ≡ commons_of parts ++ common_view p ∷ []
@@ -65,6 +65,11 @@ within_items commons items functions k view lt = let long = length-map items (it
 pub item_there : (commons : List Common) (items : List DescriptionItem) (functions : List Function) (k : ℕ) (i : DescriptionItem) (d : Function) → map (item_function commons) items ≡ functions → k < length functions → i ≡ get_or items k i → item_function commons i ≡ get_or functions k d
 item_there commons items functions k i d view lt is =
     ap (item_function commons) is ∙ sym (get_or-map (item_function commons) items k i d (within_items commons items functions k view lt)) ∙ ap (λ (fs : List Function). get_or fs k d) view
+
+pub initial_there : (commons held : List Common) (items : List DescriptionItem) (functions : List Function) (k : ℕ) (i : DescriptionItem) (d : Function) → commons ≡ held → map (item_function commons) items ≡ functions → k < length functions → i ≡ get_or items k i
+    → HasInitial held i.common (get_or functions k d).initial
+initial_there commons held items functions k i d same view lt is =
+    sym (ap (λ (f : Function). f.initial) (item_there commons items functions k i d view lt is)) ∙ ap (λ (cs : List Common). (get_or cs i.common no_common).initial) same
 
 pub held_there : (commons : List Common) (items : List DescriptionItem) (functions : List Function) (k : ℕ) (i : DescriptionItem) → map (item_function commons) items ≡ functions → k < length functions → All (IsItemIn commons) items → i ≡ get_or items k i → IsItemIn commons i
 held_there commons items functions k i view lt all is = subst (IsItemIn commons) (sym is) (all k i (within_items commons items functions k view lt))

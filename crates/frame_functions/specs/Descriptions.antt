@@ -57,6 +57,10 @@ commons_of parts = map common_view parts
 abbrev pub no_common : Common
 no_common = record { arch = Amd64; column = 0; signal = false; key = A; code = 0; factor = pos 0; initial = [] }
 
+-- the initial instructions of the functions that share what has this number
+abbrev pub HasInitial : List Common → (number : ℕ) → List Item → Type 0
+HasInitial commons number initial = initial ≡ (get_or commons number no_common).initial
+
 -- a function by what it shares and what it has of its own
 abbrev pub function_by_item : Common → DescriptionItem → Function
 function_by_item c i = record {

@@ -2,7 +2,7 @@
 
 ghost use Rattle.std.specs.Prelude.{◌≡◌, ◌<◌, ◌++◌, [], ◌∷◌, IfOk, OnOk, get_or, length};
 ghost use Rattle.frame_functions.specs.Functions.{Function as function};
-ghost use Rattle.frame_functions.specs.Descriptions.{AreByStart, IsItemIn, CanBeRun, common_view, function_by_item, item_function, described_function};
+ghost use Rattle.frame_functions.specs.Descriptions.{AreByStart, HasInitial, IsItemIn, CanBeRun, common_view, function_by_item, item_function, described_function};
 
 use crate::description::{CommonPart, Description, DescriptionItem};
 use sf_functions::sort_by_start;
@@ -98,6 +98,16 @@ impl<'a> Descriptions<'a> {
         let item = &self.items[number];
         let common = &self.common[item.common as usize];
         put_together(common, item)
+    }
+
+    /// Returns the number of what a function shares with others: functions with the same number have the same initial
+    /// instructions.
+    #[inline(always)]
+    pub fn common_number(&self, number: usize) -> u32
+        requires { number < length self.now.functions }
+        ensures { (d : function) → HasInitial self.now.common result (get_or self.now.functions number d).initial }
+    {
+        self.items[number].common
     }
 
     /// Adds what the functions of one more common information entry share, and returns its number.

@@ -1,3 +1,4 @@
 pub mod Signals
 pub mod Table
 pub mod Numbered
+pub mod Rules

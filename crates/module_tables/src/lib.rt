@@ -7,11 +7,12 @@
 //! without call frame information has a section without functions, and no signal frames. There is one such list: `one_signals`
 //! and `some_signals` of `proofs/OneList.antt`. [`numbered`] gives a file's fault its number among the items of a run.
 //!
-//! The caller owes a file of fewer than 2^32 bytes. The file is read once; the functions, the section and the list are
-//! allocated.
+//! The caller owes a file of fewer than 2^32 bytes. The file is read once, and the instructions of a long common
+//! information entry are run once for all its functions; the functions, the section and the list are allocated.
 #![tactic(auto)]
 
 mod fault;
+mod rules;
 mod signals;
 mod table;
 

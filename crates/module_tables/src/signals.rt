@@ -1,32 +1,48 @@
 //! The signal frames of functions.
 
-ghost use Rattle.std.specs.Prelude.{◌≡◌, ℕ, Some, IfOk, IfSome};
-ghost use Rattle.frame_functions.specs.Descriptions.{described_function};
+ghost use Rattle.std.specs.Prelude.{◌≡◌, ◌<◌, ℕ, List, Some, IfOk, IfSome, OnOk, get_or, length};
+ghost use Rattle.frame_functions.specs.Functions.{Function as function};
 ghost use Rattle.signal_frames.specs.declared.frame.SignalFrame.{SignalFrame as frame};
+ghost use Rattle.module_tables.specs.Rules.{AreKept};
 ghost use Rattle.module_tables.specs.Signals.{AreSignals, HasSignalFrame, IsSignalOf, signal_span};
 
-use frame_functions::{Description, Descriptions};
+use crate::rules::KeptRules;
+use frame_functions::Descriptions;
 use sf_base::NoMemory;
 use sf_lookup::Span;
-use signal_frames::{SignalFrame, signal_frame};
+use signal_frames::{SignalFrame, is_signal, signal_frame};
 use std::alloc::Global;
 
 // Returns the addresses of a function with its signal frame, if it has one.
-fn signal_of(description: &Description<'_>) -> Option<Span<SignalFrame>>
-    ensures found { IfSome result (λ signal. IsSignalOf (described_function description.now) signal) }
-    ensures only { (f : frame) → HasSignalFrame (described_function description.now) f → result ≡ Some (signal_span (described_function description.now) f) }
+fn signal_of<'a>(
+    descriptions: &Descriptions<'a>,
+    number: usize,
+    kept: &mut KeptRules<'a>,
+) -> Result<Option<Span<SignalFrame>>, NoMemory>
+    requires number { number < length descriptions.now.functions }
+    requires kept { AreKept descriptions.now.common kept.old }
+    ensures found { (d : function) → IfOk result (λ found. IfSome found (λ signal. IsSignalOf (get_or descriptions.now.functions number d) signal)) }
+    ensures only { (d : function) (f : frame) → HasSignalFrame (get_or descriptions.now.functions number d) f → IfOk result (λ found. found ≡ Some (signal_span (get_or descriptions.now.functions number d) f)) }
+    ensures kept { OnOk result (AreKept descriptions.now.common kept.new) }
 {
-    let found = signal_frame(
+    let description = descriptions.get(number);
+    if !is_signal(description.arch, &description.facts) {
+        return Ok(None);
+    }
+    let rules = kept.find(descriptions.common_number(number), description.initial)?;
+    let Some(found) = signal_frame(
         description.arch,
         &description.facts,
-        description.initial,
+        &rules,
         description.own,
-    )?;
-    Some(Span {
+    ) else {
+        return Ok(None);
+    };
+    Ok(Some(Span {
         start: description.facts.start,
         size: description.facts.size,
         leads_to: found,
-    })
+    }))
 }
 
 /// Lists the addresses of functions with their signal frames, of those that have one, in order.
@@ -36,9 +52,10 @@ pub fn signals_of(
 ) -> Result<Vec<Span<SignalFrame>>, NoMemory>
     ensures { IfOk result (λ signals. AreSignals descriptions.now.functions signals.items) }
 {
+    let mut kept = KeptRules::new(alloc);
     let mut signals = Vec::new(alloc);
     for number in 0..descriptions.len() {
-        if let Some(signal) = signal_of(&descriptions.get(number)) {
+        if let Some(signal) = signal_of(descriptions, number, &mut kept)? {
             signals.push(signal)?;
         }
     }

@@ -1,5 +1,6 @@
 pub mod Expression
 pub mod Rules
 pub mod Run
+pub mod InitialRules
 pub mod SignalFrame
 pub mod Row

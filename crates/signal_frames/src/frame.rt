@@ -1,16 +1,17 @@
 //! Signal frames (GNU's augmentation letter `S`; DWARF 5, section 6.4.1).
 
-ghost use Rattle.std.specs.Prelude.{◌≡◌, ℤ, Some, IfSome, IsTrue};
+ghost use Rattle.std.specs.Prelude.{◌≡◌, ℤ, List, Some, IfSome, IsTrue};
 ghost use Rattle.std.specs.Option.{option_map};
 ghost use Rattle.sf_bytes.specs.Cursor.{cursor};
-ghost use Rattle.cfa_insn.specs.Listing.{listing};
+ghost use Rattle.cfa_insn.specs.Listing.{Item, listing};
 ghost use Rattle.signal_frames.specs.declared.frame.SignalFrame.{SignalFrame as frame};
+ghost use Rattle.signal_frames.specs.InitialRules.{AreInitialRules};
 ghost use Rattle.signal_frames.specs.Rules.{rule_view, rules_view};
 ghost use Rattle.signal_frames.specs.SignalFrame.{HaveConstants, IsFrameAddress, IsSavedAt, IsSignal, IsSignalFrame, IsValueAt};
 
 use crate::change::Rule;
 use crate::expression::{stack_address, stack_value};
-use crate::rules::{Rules, rules_of};
+use crate::rules::{InitialRules, Rules, rules_of};
 use cfa_machine::return_address_of;
 use sf_bytes::Part;
 use sf_model::{Arch, FdeFacts};
@@ -82,8 +83,8 @@ fn frame_by(rules: &Rules<'_>) -> Option<SignalFrame>
     })
 }
 
-// Returns whether a function's return address column is the machine's and its frame a signal's.
-fn is_signal(arch: Arch, facts: &FdeFacts) -> bool
+/// Returns whether a function's return address column is the machine's and its frame a signal's.
+pub fn is_signal(arch: Arch, facts: &FdeFacts) -> bool
     ensures found { IsTrue result → IsSignal arch facts.now }
     ensures only { IsSignal arch facts.now → IsTrue result }
 {
@@ -93,19 +94,19 @@ fn is_signal(arch: Arch, facts: &FdeFacts) -> bool
     }
 }
 
-/// Returns the signal frame that a function has at each of its addresses, by the instructions of its common information
-/// entry and its own. Returns `None` if its frame isn't a signal's, if one of its rules has another form, if it has more
+/// Returns the signal frame that a function has at each of its addresses, by the rules of its common information entry and
+/// its own instructions. Returns `None` if its frame isn't a signal's, if one of its rules has another form, if it has more
 /// than one row, or if an instruction can't be read.
 pub fn signal_frame(
     arch: Arch,
     facts: &FdeFacts,
-    initial: Part<'_>,
+    initial: &InitialRules<'_>,
     own: Part<'_>,
 ) -> Option<SignalFrame>
     // What is returned is the function's signal frame.
-    ensures found { IfSome result (λ f. IsSignalFrame arch facts.now (listing (cursor initial.entry)) (listing (cursor own.entry)) f) }
+    ensures found { (common : List Item) → AreInitialRules common initial.now → IfSome result (λ f. IsSignalFrame arch facts.now common (listing (cursor own.entry)) f) }
     // A signal frame that the function has is returned.
-    ensures only { (f : frame) → IsSignalFrame arch facts.now (listing (cursor initial.entry)) (listing (cursor own.entry)) f → result ≡ Some f }
+    ensures only { (common : List Item) (f : frame) → AreInitialRules common initial.now → IsSignalFrame arch facts.now common (listing (cursor own.entry)) f → result ≡ Some f }
 {
     if !is_signal(arch, facts) {
         return None;

@@ -1,11 +1,12 @@
 //! The four rules that a signal frame needs, by one pass over the instructions.
 
-ghost use Rattle.std.specs.Prelude.{◌≡◌, ◌++◌};
+ghost use Rattle.std.specs.Prelude.{◌≡◌, ◌++◌, List};
 ghost use Rattle.std.specs.Option.{option_map, option_or};
 ghost use Rattle.sf_bytes.specs.Cursor.{cursor};
-ghost use Rattle.cfa_insn.specs.Listing.{item, listing};
+ghost use Rattle.cfa_insn.specs.Listing.{Item, item, listing};
 ghost use Rattle.signal_frames.specs.Rules as spec;
 ghost use Rattle.signal_frames.specs.Rules.{change_view, given_to, is_column, rule_view, rules_view};
+ghost use Rattle.signal_frames.specs.InitialRules.{AreInitialRules};
 ghost use Rattle.signal_frames.specs.Run.{after_item, changed, no_rules, rules_by};
 
 use crate::change::{Change, Column, Rule, change_of};
@@ -108,10 +109,16 @@ fn run<'a>(part: Part<'a>, before: Rules<'a>) -> Option<Rules<'a>>
     Some(rules)
 }
 
-/// Returns the rules after the instructions of the common information entry and of the function, or `None` if one
-/// can't be read or the function has another row.
-pub fn rules_of<'a>(initial: Part<'a>, own: Part<'a>) -> Option<Rules<'a>>
-    ensures { option_map rules_view result ≡ rules_by (listing (cursor initial.entry) ++ listing (cursor own.entry)) no_rules }
+/// The rules that the instructions of a common information entry give, for all functions that name it.
+#[derive(Clone, Copy)]
+pub struct InitialRules<'a> {
+    /// `None` if an instruction can't be read or another row begins.
+    rules: Option<Rules<'a>>,
+}
+
+/// Returns the rules that the instructions of a common information entry give.
+pub fn initial_rules<'a>(initial: Part<'a>) -> InitialRules<'a>
+    ensures { AreInitialRules (listing (cursor initial.entry)) result }
 {
     let none = Rules {
         cfa: None,
@@ -119,6 +126,18 @@ pub fn rules_of<'a>(initial: Part<'a>, own: Part<'a>) -> Option<Rules<'a>>
         frame_pointer: None,
         stack_pointer: None,
     };
-    let common = run(initial, none)?;
+    InitialRules {
+        rules: run(initial, none),
+    }
+}
+
+// Returns the rules after the instructions of the common information entry, which gave these, and of the function, or `None`
+// if one can't be read or the function has another row.
+pub fn rules_of<'a>(initial: &InitialRules<'a>, own: Part<'a>) -> Option<Rules<'a>>
+    ensures { (common : List Item) → AreInitialRules common initial.now → option_map rules_view result ≡ rules_by (common ++ listing (cursor own.entry)) no_rules }
+{
+    let Some(common) = initial.rules else {
+        return None;
+    };
     run(own, common)
 }

@@ -1,20 +1,18 @@
 use Rattle.std.specs.Option.{option_and_then, option_map}
-use Rattle.std.proofs.Common.{ap, sym, ◌∙◌}
+use Rattle.std.proofs.Common.{◌≡◌, List, ◌++◌, Option, ap, sym, ◌∙◌}
 use Rattle.sf_bytes.specs.Cursor.{cursor}
-use Rattle.cfa_insn.specs.Listing.{listing}
+use Rattle.cfa_insn.specs.Listing.{Item, listing}
 use Rattle.signal_frames.specs.Rules.{RulesView, rules_view}
 use Rattle.signal_frames.specs.Run.{no_rules, rules_by}
 use Rattle.signal_frames.proofs.Running.{appended}
 use Rattle.signal_frames.proofs.rules.rules_of.Goals as goal
 
-pub returns-in_err-common : goal.returns-in_err-common
-returns-in_err-common c =
-    let own = listing (cursor c.args.own) in
-    ap (option_map rules_view) c.from_residual.ensures ∙ ap (option_and_then (λ (s : RulesView). rules_by own s)) c.in_err-common.ensures
-    ∙ sym (appended (listing (cursor c.args.initial)) own no_rules)
+-- the rules after the instructions of both
+joined : (kept : Option RulesView) (common own : List Item) → kept ≡ rules_by common no_rules → option_and_then (λ (s : RulesView). rules_by own s) kept ≡ rules_by (common ++ own) no_rules
+joined kept common own are = ap (option_and_then (λ (s : RulesView). rules_by own s)) are ∙ sym (appended common own no_rules)
+
+pub returns-in_default : goal.returns-in_default
+returns-in_default c = λ common are. joined _ common (listing (cursor c.args.own)) (sym (ap (option_map rules_view) c.in_default.is) ∙ are)
 
 pub returns : goal.returns
-returns c =
-    let own = listing (cursor c.args.own) in
-    c.run-2.ensures ∙ ap (option_and_then (λ (s : RulesView). rules_by own s)) c.in_ok-common.ensures
-    ∙ sym (appended (listing (cursor c.args.initial)) own no_rules)
+returns c = λ common are. c.run.ensures ∙ joined _ common (listing (cursor c.args.own)) (sym (ap (option_map rules_view) c.in-Some.is) ∙ are)
