@@ -24,10 +24,10 @@ found_holds address len (Some h) = head_holds address len h
 found_holds address len None = false
 
 -- ---- below all segments
-not_low : (vaddr address : ℕ) (rest : Bool) → address < vaddr → (nat_le vaddr address && rest) ≡ false
+pub not_low : (vaddr address : ℕ) (rest : Bool) → address < vaddr → (nat_le vaddr address && rest) ≡ false
 not_low vaddr address rest lt = ap (λ (b : Bool). b && rest) (lt-leb vaddr address lt)
 
-none_above : (end : ℕ) (hs : List SegmentHead) (address len : ℕ) → heads_rise end hs ≡ true → address < end → list_any (head_holds address len) hs ≡ false
+pub none_above : (end : ℕ) (hs : List SegmentHead) (address len : ℕ) → heads_rise end hs ≡ true → address < end → list_any (head_holds address len) hs ≡ false
 none_above end [] address len rise lt = refl
 none_above end (h ∷ hs) address len rise lt =
     let parts = both (rises end h) (heads_rise (end_after end h) hs) rise in
@@ -44,7 +44,7 @@ none_above end (h ∷ hs) address len rise lt =
 
 -- ---- the first that has the address
 -- a segment that hasn't the first byte hasn't them all
-not_covered : (vaddr size address len : ℕ) → 0 < len → (nat_le vaddr address && nat_lt address (vaddr + size)) ≡ false → (nat_le vaddr address && nat_le (address + len) (vaddr + size)) ≡ false
+pub not_covered : (vaddr size address len : ℕ) → 0 < len → (nat_le vaddr address && nat_lt address (vaddr + size)) ≡ false → (nat_le vaddr address && nat_le (address + len) (vaddr + size)) ≡ false
 not_covered vaddr size address len some e = elim (cases_lt address vaddr) [
   | inl before ↦ not_low vaddr address (nat_le (address + len) (vaddr + size)) before
   | inr from ↦ elim (cases_lt address (vaddr + size)) [
@@ -53,7 +53,7 @@ not_covered vaddr size address len some e = elim (cases_lt address vaddr) [
   ]
 ]
 
-below_end : (vaddr size address : ℕ) → (nat_le vaddr address && nat_lt address (vaddr + size)) ≡ true → address < vaddr + size
+pub below_end : (vaddr size address : ℕ) → (nat_le vaddr address && nat_lt address (vaddr + size)) ≡ true → address < vaddr + size
 below_end vaddr size address e = elim (cases_lt address (vaddr + size)) [
   | inl within ↦ within
   | inr past ↦ absurd (let no : false ≡ true = sym (le-ltb address (vaddr + size) past) ∙ (both (nat_le vaddr address) (nat_lt address (vaddr + size)) e).1 in cc)

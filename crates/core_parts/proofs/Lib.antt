@@ -1,5 +1,7 @@
 pub mod PartReads
+pub mod Cuts
 pub mod Windows
+pub mod SegmentReads
 pub mod Blocks
 pub mod Fields
 pub mod Notes

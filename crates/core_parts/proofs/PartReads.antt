@@ -1,12 +1,11 @@
 -- What is read of parts of a file.
-use Rattle.std.specs.Prelude.{nat_le, nat_lt, ◌&&◌, ◌||◌, is_some}
+use Rattle.std.specs.Prelude.{nat_le, ◌&&◌, ◌||◌, is_some}
 use Rattle.std.specs.List.{filter, find, list_any}
 use Rattle.std.specs.Option.{option_map}
 use Rattle.std.proofs.Common.{◌≡◌, ℕ, ◌+◌, ◌-◌, ◌^◌, ◌<◌, ◌≤◌, min, Bool, true, false, cond, List, [], ◌∷◌, length, take, drop, map, Option, Some, None, refl, sym, ap, ◌∙◌, arith}
 use Rattle.std.proofs.lemmas.Bool.{leb-true, le-leb, lt-leb, le-ltb}
 use Rattle.std.proofs.lemmas.List.{length-drop, length-take}
 use Rattle.byteorder.specs.Endian.{little_number}
-use Rattle.sf_bytes.specs.declared.file_part.FilePart.{FilePart}
 use Rattle.sf_model.specs.Memory.{Region, eight_bytes, holds_eight, read_eight}
 use Rattle.core_notes.specs.MemoryBytes.{bytes_at, holds_bytes, region_bytes}
 use Rattle.elf_read.specs.Number.{front_number, window}
@@ -14,7 +13,6 @@ use Rattle.core_notes.specs.Memory.{region_of}
 use Rattle.core_notes.specs.Segment.{is_load}
 use Rattle.core_parts.specs.declared.segment.SegmentHead.{SegmentHead}
 use Rattle.core_parts.specs.Heads.{head_holds, head_lies, heads_lie, is_memory, memory_in, segment_in}
-use Rattle.core_parts.specs.Read.{lies_within, part_region}
 
 pub both : (a b : Bool) → (a && b) ≡ true → (a ≡ true) × (b ≡ true)
 both true true h = (refl, refl)
@@ -34,26 +32,7 @@ pub read_found : (memory : List Region) (address : ℕ) → address + 8 ≤ 2 ^ 
 unfolding read_eight
 read_found memory address h = ap (λ (b : Bool). cond b (option_map (eight_bytes address) (find (holds_eight address) memory)) None) (le-leb (address + 8) (2 ^ 64) h)
 
--- ---- reads of one segment
--- a part that lies in a segment, and has `len` bytes from an address on
-pub record HasBytes (address len : ℕ) (h : SegmentHead) (p : FilePart) : Type 0 where
-  pub from : h.place ≤ p.place
-  pub to : p.place + length p.bytes.items ≤ h.place + h.size
-  pub low : h.vaddr + (p.place - h.place) ≤ address
-  pub high : address + len ≤ h.vaddr + (p.place - h.place) + length p.bytes.items
-
-pub has_bytes : (address len : ℕ) (h : SegmentHead) (p : FilePart) → lies_within h p ≡ true → holds_bytes address len (part_region h p) ≡ true → HasBytes address len h p
-has_bytes address len h p e f =
-    let from = both (nat_le h.place p.place) (nat_le (p.place + length p.bytes.items) (h.place + h.size) && nat_lt (h.vaddr + (p.place - h.place)) (2 ^ 64)) e in
-    let to = both (nat_le (p.place + length p.bytes.items) (h.place + h.size)) (nat_lt (h.vaddr + (p.place - h.place)) (2 ^ 64)) from.1 in
-    let holds = both (nat_le (h.vaddr + (p.place - h.place)) address) (nat_le (address + len) (h.vaddr + (p.place - h.place) + length p.bytes.items)) f in
-    record {
-      from = leb-true h.place p.place from.0;
-      to = leb-true (p.place + length p.bytes.items) (h.place + h.size) to.0;
-      low = leb-true (h.vaddr + (p.place - h.place)) address holds.0;
-      high = leb-true (address + len) (h.vaddr + (p.place - h.place) + length p.bytes.items) holds.1;
-    }
-
+-- ---- the bytes of a part
 pub long_enough : (bytes : List ℕ) → 8 ≤ length bytes → front_number 8 bytes ≡ little_number 8 bytes
 unfolding front_number
 long_enough bytes h = ap (λ (b : Bool). cond b 0 (little_number 8 bytes)) (le-ltb (length bytes) 8 h)
@@ -109,3 +88,11 @@ bytes_held file address len hs e = held_by_heads file address len hs e ∙ sym (
 
 pub none_too_high : (memory : List Region) (address : ℕ) → 2 ^ 64 < address + 8 → false ≡ is_some (read_eight memory address)
 none_too_high memory address h = ap is_some (sym (too_high memory address h))
+
+-- what lies in a file lies in a longer one
+pub lie_longer : (m n : ℕ) (hs : List SegmentHead) → m ≤ n → heads_lie m hs ≡ true → heads_lie n hs ≡ true
+lie_longer m n [] le e = refl
+lie_longer m n (h ∷ hs) le e =
+    let parts = both (head_lies m h) (heads_lie m hs) e in
+    let lies : h.place + h.size ≤ m = leb-true (h.place + h.size) m parts.0 in
+    two_true (head_lies n h) (heads_lie n hs) (le-leb (h.place + h.size) n (omega (lies, le, arith))) (lie_longer m n hs le parts.1)

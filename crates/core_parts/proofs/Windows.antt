@@ -4,7 +4,7 @@ use Rattle.std.specs.List.{filter, find}
 use Rattle.std.specs.Option.{option_map, option_or}
 use Rattle.std.proofs.Common.{◌≡◌, ℕ, suc, ◌+◌, ◌-◌, ◌^◌, ◌<◌, ◌≤◌, min, Bool, true, false, cond, List, [], ◌∷◌, ◌++◌, length, take, drop, map, Option, Some, None, refl, sym, ap, subst, ◌∙◌, arith, inl, inr}
 use Rattle.std.proofs.lemmas.Bool.{cases_lt, leb-true, le-leb, lt-leb}
-use Rattle.std.proofs.lemmas.List.{length-drop, length-take, drop-drop, drop-take, take-take}
+use Rattle.std.proofs.lemmas.List.{length-drop, length-take, drop-drop}
 use Rattle.std.proofs.lemmas.List.Folds.{find-append}
 use Rattle.byteorder.specs.Endian.{little_number}
 use Rattle.byteorder.specs.Numbers.{little_from-take}
@@ -18,47 +18,44 @@ use Rattle.core_notes.specs.Segment.{is_load, segments}
 use Rattle.core_walk.specs.PartWalk.{IsPartOf}
 use Rattle.core_parts.specs.declared.segment.SegmentHead.{SegmentHead}
 use Rattle.core_parts.specs.Heads.{heads_rise, is_memory, memory_in, segment_in}
-use Rattle.core_parts.specs.Read.{lies_within, part_region, regions_read}
-use Rattle.core_parts.proofs.PartReads.{HasBytes, both, has_bytes, read_found, too_high, two_true}
+use Rattle.core_parts.specs.Read.{part_region, place_of, regions_read}
+use Rattle.core_parts.specs.Whole.{part_cursor}
+use Rattle.core_parts.proofs.Cuts.{IsCut, cut_bytes, is_cut, taken}
+use Rattle.core_parts.proofs.PartReads.{both, read_found, too_high, two_true}
 
 -- the memory of a segment
 abbrev region_in : List ℕ → SegmentHead → Region
 region_in file h = region_of (segment_in file h)
 
 -- ---- one part
-taken : (n k len : ℕ) (bytes : List ℕ) → k + len ≤ n → take len (drop k (take n bytes)) ≡ take len (drop k bytes)
-taken n k len bytes h =
-    let all : n ≡ k + (n - k) = omega (h, arith) in
-    ap (λ (m : ℕ). take len (drop k (take m bytes))) all ∙ ap (take len) (drop-take k (n - k) bytes) ∙ take-take len (n - k) (drop k bytes) (omega (h, arith))
-
 -- a region has the bytes of another
 record SameBytes (address len : ℕ) (one other : Region) : Type 0 where
   holds : holds_bytes address len one ≡ true
   low : one.start ≤ address
   same : region_bytes address len one ≡ region_bytes address len other
 
-in_file : (file : List ℕ) (h : SegmentHead) (p : FilePart) (address len : ℕ) → 0 < len → IsPart file p → HasBytes address len h p → SameBytes address len (region_in file h) (part_region h p)
+in_file : (file : List ℕ) (h : SegmentHead) (p : FilePart) (address len : ℕ) → 0 < len → IsPart file p → IsCut address len h (part_cursor p) → SameBytes address len (region_in file h) (part_region h (part_cursor p))
 in_file file h p address len some is w =
+    let q = place_of address h in
     let part_len : length p.bytes.items ≡ min (length p.bytes.items) (length (drop p.place file)) = ap length is ∙ length-take (length p.bytes.items) (drop p.place file) in
     let part_left : length (drop p.place file) ≡ length file - p.place = length-drop p.place file in
     let whole_len : length (take h.size (drop h.place file)) ≡ min h.size (length (drop h.place file)) = length-take h.size (drop h.place file) in
     let left : length (drop h.place file) ≡ length file - h.place = length-drop h.place file in
-    let ends : p.place + length p.bytes.items ≤ length file = omega (arith, some, part_len, part_left, w.low, w.high) in
-    let low : h.vaddr ≤ address = omega (arith, w.low) in
-    let high : address + len ≤ h.vaddr + length (take h.size (drop h.place file)) = omega (arith, w.from, w.to, w.high, ends, whole_len, left) in
-    let fits : (address - h.vaddr) + len ≤ h.size = omega (arith, w.from, w.to, w.high, low) in
-    let there : h.place + (address - h.vaddr) ≡ p.place + (address - (h.vaddr + (p.place - h.place))) = omega (arith, w.from, w.low) in
-    let short : (address - (h.vaddr + (p.place - h.place))) + len ≤ length p.bytes.items = omega (arith, w.low, w.high) in
+    let ends : q + len ≤ length file = omega (arith, some, part_len, part_left, w.from, w.to) in
+    let high : address + len ≤ h.vaddr + length (take h.size (drop h.place file)) = omega (arith, w.low, w.high, ends, whole_len, left) in
+    let fits : (address - h.vaddr) + len ≤ h.size = omega (arith, w.low, w.high) in
+    let there : p.place + (q - p.place) ≡ q = omega (arith, w.from) in
     record {
-      holds = two_true (nat_le h.vaddr address) (nat_le (address + len) (h.vaddr + length (take h.size (drop h.place file)))) (le-leb h.vaddr address low) (le-leb (address + len) (h.vaddr + length (take h.size (drop h.place file))) high);
-      low = low;
+      holds = two_true (nat_le h.vaddr address) (nat_le (address + len) (h.vaddr + length (take h.size (drop h.place file)))) (le-leb h.vaddr address w.low) (le-leb (address + len) (h.vaddr + length (take h.size (drop h.place file))) high);
+      low = w.low;
       same =
           taken h.size (address - h.vaddr) len (drop h.place file) fits
           ∙ ap (take len) (drop-drop (address - h.vaddr) h.place file)
-          ∙ ap (λ (m : ℕ). take len (drop m file)) there
-          ∙ ap (take len) (sym (drop-drop (address - (h.vaddr + (p.place - h.place))) p.place file))
-          ∙ sym (taken (length p.bytes.items) (address - (h.vaddr + (p.place - h.place))) len (drop p.place file) short)
-          ∙ ap (λ (bytes : List ℕ). take len (drop (address - (h.vaddr + (p.place - h.place))) bytes)) (sym is);
+          ∙ sym (cut_bytes address len h (part_cursor p) some w
+          ∙ ap (λ (bytes : List ℕ). take len (drop (q - p.place) bytes)) is
+          ∙ taken (length p.bytes.items) (q - p.place) len (drop p.place file) (omega (arith, w.from, w.to))
+          ∙ ap (take len) (drop-drop (q - p.place) p.place file)
+          ∙ ap (λ (m : ℕ). take len (drop m file)) there);
     }
 
 -- ---- the parts of one segment
@@ -66,25 +63,18 @@ others : (file : List ℕ) (p : FilePart) (ps : List FilePart) → AreParts file
 others file p ps are = λ k d lt. are (suc k) d (omega (lt, arith))
 
 in_segment : (file : List ℕ) (h : SegmentHead) (ps : List FilePart) (address len : ℕ) (r : Region) → 0 < len → AreParts file ps
-    → find (holds_bytes address len) (map (part_region h) (filter (lies_within h) ps)) ≡ Some r → SameBytes address len (region_in file h) r
+    → find (holds_bytes address len) (map (part_region h) (map part_cursor ps)) ≡ Some r → SameBytes address len (region_in file h) r
 in_segment file h [] address len r some are e = absurd (let no : None ≡ Some r = e in cc)
-in_segment file h (p ∷ ps) address len r some are e = by_place (lies_within h p) refl e (in_segment file h ps address len r some (others file p ps are))
+in_segment file h (p ∷ ps) address len r some are e = by_bytes (holds_bytes address len (part_region h (part_cursor p))) refl e (in_segment file h ps address len r some (others file p ps are))
   where
-    by_bytes : (b : Bool) → holds_bytes address len (part_region h p) ≡ b → lies_within h p ≡ true
-        → cond b (Some (part_region h p)) (find (holds_bytes address len) (map (part_region h) (filter (lies_within h) ps))) ≡ Some r
-        → (find (holds_bytes address len) (map (part_region h) (filter (lies_within h) ps)) ≡ Some r → SameBytes address len (region_in file h) r) → SameBytes address len (region_in file h) r
-    by_bytes true holds lies f later =
-        let same : part_region h p ≡ r = cc in
+    by_bytes : (b : Bool) → holds_bytes address len (part_region h (part_cursor p)) ≡ b
+        → cond b (Some (part_region h (part_cursor p))) (find (holds_bytes address len) (map (part_region h) (map part_cursor ps))) ≡ Some r
+        → (find (holds_bytes address len) (map (part_region h) (map part_cursor ps)) ≡ Some r → SameBytes address len (region_in file h) r) → SameBytes address len (region_in file h) r
+    by_bytes true holds f later =
+        let same : part_region h (part_cursor p) ≡ r = cc in
         subst (SameBytes address len (region_in file h)) same
-        (in_file file h p address len some (are 0 p (omega arith)) (has_bytes address len h p lies holds))
-    by_bytes false holds lies f later = later f
-
-    by_place : (b : Bool) → lies_within h p ≡ b
-        → find (holds_bytes address len) (map (part_region h) (cond b (p ∷ filter (lies_within h) ps) (filter (lies_within h) ps))) ≡ Some r
-        → (find (holds_bytes address len) (map (part_region h) (filter (lies_within h) ps)) ≡ Some r → SameBytes address len (region_in file h) r)
-        → SameBytes address len (region_in file h) r
-    by_place true lies f later = by_bytes (holds_bytes address len (part_region h p)) refl lies f later
-    by_place false lies f later = later f
+        (in_file file h p address len some (are 0 p (omega arith)) (is_cut address len h (part_cursor p) some holds))
+    by_bytes false holds f later = later f
 
 -- ---- all segments
 window_short : (file : List ℕ) (h : SegmentHead) → length (window h.place h.size file) ≤ h.size
@@ -118,7 +108,7 @@ is_there file end (h ∷ hs) ps address len r some are rise e =
     by_kind (is_memory h) rise e (λ from. is_there file from hs ps address len r some are)
   where
     -- whether the segment itself has them
-    by_segment : (o : Option Region) → find (holds_bytes address len) (map (part_region h) (filter (lies_within h) ps)) ≡ o → end ≤ h.vaddr
+    by_segment : (o : Option Region) → find (holds_bytes address len) (map (part_region h) (map part_cursor ps)) ≡ o → end ≤ h.vaddr
         → option_or o (find (holds_bytes address len) (regions_read hs ps)) ≡ Some r
         → (find (holds_bytes address len) (regions_read hs ps) ≡ Some r → IsThere (memory_in file hs) (h.vaddr + h.size) address len r)
         → IsThere (memory_by file h hs true) end address len r
@@ -141,13 +131,13 @@ is_there file end (h ∷ hs) ps address len r some are rise e =
         }
 
     by_kind : (b : Bool) → ((not b || nat_le end h.vaddr) && heads_rise (cond b (h.vaddr + h.size) end) hs) ≡ true
-        → find (holds_bytes address len) (cond b (map (part_region h) (filter (lies_within h) ps)) [] ++ regions_read hs ps) ≡ Some r
+        → find (holds_bytes address len) (cond b (map (part_region h) (map part_cursor ps)) [] ++ regions_read hs ps) ≡ Some r
         → ((from : ℕ) → heads_rise from hs ≡ true → find (holds_bytes address len) (regions_read hs ps) ≡ Some r → IsThere (memory_in file hs) from address len r)
         → IsThere (memory_by file h hs b) end address len r
     by_kind true rise f later =
         let parts = both (nat_le end h.vaddr) (heads_rise (h.vaddr + h.size) hs) rise in
-        by_segment (find (holds_bytes address len) (map (part_region h) (filter (lies_within h) ps))) refl (leb-true end h.vaddr parts.0)
-        (sym (find-append (holds_bytes address len) (map (part_region h) (filter (lies_within h) ps)) (regions_read hs ps)) ∙ f) (later (h.vaddr + h.size) parts.1)
+        by_segment (find (holds_bytes address len) (map (part_region h) (map part_cursor ps))) refl (leb-true end h.vaddr parts.0)
+        (sym (find-append (holds_bytes address len) (map (part_region h) (map part_cursor ps)) (regions_read hs ps)) ∙ f) (later (h.vaddr + h.size) parts.1)
     by_kind false rise f later = later end rise f
 
 -- ---- reads

@@ -1,5 +1,5 @@
 -- The segments of a core file by their program headers (ELF64 gABI, "Program Header").
-use Rattle.std.specs.Prelude.{ℕ, ◌+◌, ◌==◌, Bool, true, ◌&&◌, ◌||◌, not, nat_le, List, [], ◌∷◌, map, if◌then◌else◌}
+use Rattle.std.specs.Prelude.{ℕ, ◌+◌, ◌==◌, Bool, true, ◌&&◌, ◌||◌, not, nat_le, List, [], ◌∷◌, map, Option, Some, None, if◌then◌else◌}
 use Rattle.std.specs.List.{list_all}
 use Rattle.sf_lookup.specs.declared.span.Span.{Span}
 use Rattle.sf_model.specs.Memory.{Region}
@@ -43,6 +43,11 @@ end_after end h = if is_memory h then h.vaddr + h.size else end
 -- the addresses at which a segment has bytes, which lead to it; one that isn't memory has none
 abbrev pub held_span : SegmentHead → Span SegmentHead
 held_span h = record { start = h.vaddr; size = (if is_memory h then h.size else 0); leads_to = h }
+
+-- a segment that was found, if it has all of `len` bytes from an address on
+abbrev pub if_holds : (address len : ℕ) → Option SegmentHead → Option SegmentHead
+if_holds address len (Some h) = if head_holds address len h then Some h else None
+if_holds address len None = None
 
 -- each segment has its address where the memory before it ends, or after
 abbrev pub heads_rise : (end : ℕ) → List SegmentHead → Bool

@@ -2,8 +2,8 @@
 use Rattle.std.specs.Prelude.{List, map}
 use Rattle.sf_model.specs.Memory.{Region}
 use Rattle.core_parts.specs.declared.memory.PartMemory.{PartMemory}
-use Rattle.core_parts.specs.Read.{block_region}
+use Rattle.core_parts.specs.Read.{block_cursor, regions_by}
 
 -- the memory as far as it was read
 abbrev pub part_regions : PartMemory → List Region
-part_regions m = map block_region m.blocks.items
+part_regions m = regions_by m.heads.now (map block_cursor m.blocks.items)

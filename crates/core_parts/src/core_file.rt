@@ -96,9 +96,10 @@ impl CoreParts {
     ///
     /// `AllocError` if out of memory.
     pub fn memory(&self, alloc: Global) -> Result<PartMemory<'_>, AllocError>
-        ensures { IfOk result (λ memory. part_regions memory ≡ regions_read self.now.head.heads.items self.now.file.parts.items) }
+        ensures regions { IfOk result (λ memory. part_regions memory ≡ regions_read self.now.head.heads.items self.now.file.parts.items) }
+        ensures heads { IfOk result (λ memory. memory.heads.now ≡ self.now.head.heads.items) }
     {
-        let memory = PartMemory::new(alloc, &self.head.heads, &self.file.parts)?;
+        let memory = PartMemory::new(alloc, self.file.len, &self.head.heads, &self.file.parts)?;
         Ok(memory)
     }
 

@@ -21,9 +21,7 @@ pub struct PartialMap<'a> {
     /// The memory.
     pub memory: PartialMemory<'a>,
     executable: Spans<bool>,
-    held: Spans<SegmentHead>,
     ghost ordered: { InOrder executable (load_spans (partial_file memory.core.now)) },
-    ghost held_in_order: { InOrder held (map spec.held_span memory.core.now.core.head.heads.items) },
 }
 
 /// The memory of a core file in which what is at an address is found by halves: any number of bytes, and whether they may be
@@ -58,28 +56,6 @@ fn head_spans(alloc: Global, heads: &[SegmentHead]) -> Result<Vec<Span<bool>>, A
     Ok(spans)
 }
 
-// Returns the addresses at which a segment has bytes, which lead to it.
-fn held_span(head: &SegmentHead) -> Span<SegmentHead>
-    ensures { result ≡ spec.held_span head.now }
-{
-    Span {
-        start: head.vaddr,
-        size: if is_memory(head) { head.size } else { 0 },
-        leads_to: *head,
-    }
-}
-
-// Returns the addresses at which all segments have bytes.
-fn held_spans(alloc: Global, heads: &[SegmentHead]) -> Result<Vec<Span<SegmentHead>>, AllocError>
-    ensures { IfOk result (λ spans. spans.items ≡ map spec.held_span heads.now) }
-{
-    let mut spans = Vec::with_capacity(alloc, heads.len())?;
-    for head in heads {
-        spans.push(held_span(head))?;
-    }
-    Ok(spans)
-}
-
 impl<'a> PartialMap<'a> {
     ghost use Rattle.std.specs.Prelude.{◌≡◌, is_some, IfOk};
     ghost use Rattle.std.specs.Option.{option_map};
@@ -93,12 +69,7 @@ impl<'a> PartialMap<'a> {
     {
         let memory = core.memory(alloc)?;
         let executable = Spans::new(alloc, &head_spans(alloc, core.heads())?)?;
-        let held = Spans::new(alloc, &held_spans(alloc, core.heads())?)?;
-        Ok(PartialMap {
-            memory,
-            executable,
-            held,
-        })
+        Ok(PartialMap { memory, executable })
     }
 
     // Returns whether the whole memory has `len` bytes from an address on in one segment, read or not.
@@ -108,7 +79,7 @@ impl<'a> PartialMap<'a> {
         if len == 0 {
             return self.memory.core.holds_bytes(address, len);
         }
-        match self.held.first_at(address) {
+        match self.memory.memory.segment_at(address) {
             Some(head) => head_holds(&head, address, len),
             None => false,
         }
@@ -123,7 +94,7 @@ impl<'a> PartialMap<'a> {
             return Ok(Some(bytes));
         }
         if self.holds_bytes(address, len) {
-            return Err(Unread(address));
+            return Err(Unread(self.memory.memory.first_unread(address)));
         }
         Ok(None)
     }

@@ -16,8 +16,8 @@
 //! [`PartialCore`] about one of them: what the file holds, if that is known (`specs/Partial.antt`). The parts of a
 //! [`sf_parts::FileParts`] don't overlap, so there is one.
 //!
-//! The caller owes that the file doesn't change between two reads. A file has up to 2^64 bytes. [`PartMemory::new`] goes
-//! over all parts for each segment. A read of memory finds its block by halves.
+//! The caller owes that the file doesn't change between two reads. A file has up to 2^64 bytes. A read of
+//! memory finds the segment of its address by binary search, and then the part of its place.
 #![tactic(auto)]
 
 mod core_file;

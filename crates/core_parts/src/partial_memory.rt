@@ -15,5 +15,6 @@ pub struct PartialMemory<'a> {
     pub core: &'a PartialCore,
     /// What was read of its memory.
     pub memory: PartMemory<'a>,
+    ghost heads_are: { memory.heads.now ≡ core.now.core.head.heads.items },
     ghost blocks_are: { part_regions memory ≡ regions_read core.now.core.head.heads.items core.now.core.file.parts.items },
 }

@@ -1,9 +1,12 @@
 //! The segments of a core file by their program headers (ELF64 gABI, "Program Header").
 
-ghost use Rattle.std.specs.Prelude.{◌≡◌, ℕ, List, true, length, is_some};
+ghost use Rattle.std.specs.Prelude.{◌≡◌, ℕ, List, true, length, map, is_some, IfOk};
 ghost use Rattle.std.specs.List.{list_any};
 ghost use Rattle.sf_model.specs.Memory.{read_eight};
 ghost use Rattle.core_parts.specs.Heads as spec;
+
+use sf_lookup::Span;
+use std::alloc::{AllocError, Global};
 
 /// The type of a segment that is loaded.
 pub const PT_LOAD: u32 = 1;
@@ -89,6 +92,31 @@ pub fn heads_lie(heads: &[SegmentHead], len: u64) -> bool
     ensures { result ≡ spec.heads_lie len heads.now }
 {
     heads.iter().all(|head| head_lies(head, len))
+}
+
+// Returns the addresses at which a segment has bytes, which lead to it.
+fn held_span(head: &SegmentHead) -> Span<SegmentHead>
+    ensures { result ≡ spec.held_span head.now }
+{
+    Span {
+        start: head.vaddr,
+        size: if is_memory(head) { head.size } else { 0 },
+        leads_to: *head,
+    }
+}
+
+/// Returns the addresses at which all segments have bytes.
+pub fn held_spans(
+    alloc: Global,
+    heads: &[SegmentHead],
+) -> Result<Vec<Span<SegmentHead>>, AllocError>
+    ensures { IfOk result (λ spans. spans.items ≡ map spec.held_span heads.now) }
+{
+    let mut spans = Vec::with_capacity(alloc, heads.len())?;
+    for head in heads {
+        spans.push(held_span(head))?;
+    }
+    Ok(spans)
 }
 
 /// Returns whether one of the segments is memory that has all of `len` bytes from an address on, read or not.

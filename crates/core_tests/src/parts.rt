@@ -17,11 +17,13 @@ const FOUND: &str = "
     0x17000 8 => Ok(Some([1, 2, 3, 4, 5, 6, 7, 8]))
     0x17006 9 => Ok(Some([7, 8, 0, 0, 0, 0, 0, 0, 0]))
     0x36ff8 8 => Ok(Some([9, 0, 0, 0, 0, 0, 0, 0]))
-    # Not read, or not all of them. Fewer than eight are not looked for.
+    # Fewer than eight.
+    0x17000 7 => Ok(Some([1, 2, 3, 4, 5, 6, 7]))
+    0x36fff 1 => Ok(Some([0]))
+    # Not read, or not all of them.
     0x7000 8 => Err(Unread(28672))
     0x16ff8 8 => Err(Unread(94200))
     0x16ffc 8 => Err(Unread(94204))
-    0x17000 7 => Err(Unread(94208))
     # No segment has all of them.
     0x6fff 8 => Ok(None)
     0x36ff9 8 => Ok(None)
