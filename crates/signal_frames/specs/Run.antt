@@ -1,4 +1,4 @@
--- Inside the crate. The four rules of a function, by one pass over its instructions.
+-- The four rules of a function, by one pass over its instructions.
 use Rattle.std.specs.Prelude.{List, [], ◌∷◌, Option, Some, None, Ok, Err, if◌then◌else◌}
 use Rattle.std.specs.Option.{option_and_then, option_or}
 use Rattle.cfa_insn.specs.Listing.{Item}
