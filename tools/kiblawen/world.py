@@ -10,8 +10,9 @@ What is compared:
   whether it is kept, the canonical frame address, the return address and the frame pointer at each offset, or the offset of the first
   row that SFrame cannot express;
 - sections: functions and rows with what `objdump --sframe` shows for the same section, if this objdump reads this version;
-- versions: what `readelf --sframe` prints of a section and of the Version 3 section that `upgrade` makes of it, if this readelf, or the one of
-  --readelf WORDS, is of GNU binutils from 2.46 on (versions.py);
+- versions: what `readelf --sframe` prints of a section and of the Version 3 section that `upgrade` makes of it, if this readelf is of GNU
+  binutils from 2.46 on; with --binutils FOLDER, which has such readelf, objdump, as and ld, or scripts that run them, also what this objdump
+  prints, and what as and ld write for C files (versions.py);
 - assembled sections: with the `.sframe` that `as --gsframe` writes, if this assembler writes this version;
 - walks: the program counters of a core file's thread with those that gdb and eu-stack show, if available;
 - processes: the program counters from `procwalk` and `procbacktrace` with those of gdb and eu-stack, if a file was also mapped as data, two files
@@ -296,7 +297,7 @@ def main(words):
     parser = common.parser(__name__, __doc__)
     program.add_option(parser)
     parser.add_argument("--small", action="store_true")
-    parser.add_argument("--readelf", metavar="WORDS", default="readelf", help="such as that of binutils unpacked beside the system, with its loader")
+    parser.add_argument("--binutils", metavar="FOLDER", type=os.path.abspath, help="with readelf, objdump, as and ld of GNU binutils from 2.46 on")
     parser.add_argument("files", nargs="*", metavar="FILE")
     given = parser.parse_args(words)
     tool, found = program.find(__name__, given.tool), Found()
@@ -312,7 +313,7 @@ def main(words):
             for one in workers.map(compare_rows, [tool] * len(paths), paths):
                 found.add(one)
         large = [it for it in LARGE[: 1 if given.small else None] if os.path.exists(it)]
-        versions.compare_versions(found, tool, room, given.readelf, paths if given.files else large)
+        versions.compare_versions(found, tool, room, given.binutils, paths if given.files else large)
         if not given.files:
             compare_assembled(found, tool, room)
             compare_walks(found, tool, room)
