@@ -68,6 +68,10 @@ PRINTED = Limits(written=0)
 LENDING = Limits(files=14)
 # What puts the shortest entries of mapped files in order, and reads a file that is given 512 times each time.
 ORDERED = Limits(files=6)
+# What stores the rows of one function, whose room doubles.
+GROWING = Limits(files=8)
+# What reads few parts of a core file, however long it is.
+BY_PARTS = Limits(files=0)
 
 # The limits of each input of inputs.py. One without is only shown.
 INPUTS = {
@@ -102,7 +106,7 @@ INPUTS = {
     "slim_of_all_rows": USUAL,
     "upgrade_of_shared_rows": USUAL,
     "upgrade_of_all_rows": USUAL,
-    "upgrade_of_a_long_function": USUAL,
+    "upgrade_of_a_long_function": GROWING,
     "verify_of_all_rows": USUAL,
     "lookup_among_nested": USUAL,
     "lookup_in_a_long_function": USUAL,
@@ -114,6 +118,7 @@ INPUTS = {
     "walk_over_segments": USUAL,
     "walk_over_falling_segments": USUAL,
     "deep_walk_over_falling_segments": USUAL,
+    "walk_over_shared_segments": USUAL,
     "notes": USUAL,
     "notes_last": USUAL,
     "segments_of_notes": USUAL,
@@ -131,7 +136,9 @@ INPUTS = {
     "executables_over_falling_segments": USUAL,
     "notes_of_a_module": USUAL,
     "loads_and_notes_of_a_module": USUAL,
+    "process_with_a_short_identifier": BY_PARTS,
     "backtrace_over_signals": USUAL,
+    "backtrace_over_signals_of_one_entry": LENDING,
     "deep_backtrace": USUAL,
     "backtrace_with_long_names": USUAL,
     "backtrace_of_many_files": USUAL,

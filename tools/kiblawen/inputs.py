@@ -467,10 +467,11 @@ def note(kind, descriptor, name=b"CORE\0"):
     return struct.pack("<III", len(name), len(descriptor), kind) + pad(name) + pad(descriptor)
 
 
-def thread(pid, pc, sp):
+def thread(pid, pc, sp, fp=0):
     """The status of a thread."""
     it = bytearray(336)
     struct.pack_into("<I", it, 32, pid)
+    struct.pack_into("<Q", it, 144, fp)
     struct.pack_into("<QQ", it, 240, pc, 0)
     struct.pack_into("<Q", it, 264, sp)
     return note(NT_PRSTATUS, bytes(it))
@@ -524,6 +525,26 @@ def walk_over_falling_segments(size):
 def deep_walk_over_falling_segments(size):
     """A walk of 1024 frames over memory whose addresses fall."""
     return walk(apart(1), core([(PT_NOTE, 0, threads(1))] + falling(size // 64) + [stack()]), 1024)
+
+
+def walk_over_shared_segments(size):
+    """Memory whose segments share their bytes, pieces of which are read, since mapped files begin there. The frame pointers lead through segments that
+    the next round reads."""
+    it, count, shared = Core(), min(1024, size // 512), min(60000, size // 64)
+    chain, top = 9, 0x7FFF00000000
+    body = bytes(8 * count) + b"".join(struct.pack("<QQ", top + 32 * (at + 1), 0x1006) for at in range(chain))
+    first = 0x10000000 + 16 * count
+    places = [0x10000000 + 16 * at for at in range(count)]
+    it.body(body)
+    it.segment(PT_NOTE, 0, it.body(mapped([(place, place + 8, b"x") for place in places]) + thread(1, 0x1005, top, top)))
+    for at, place in enumerate(places):
+        it.segment(PT_LOAD, place, (8 * at, 8))
+    for at in range(shared):
+        it.segment(PT_LOAD, first + 16 * count * at, (0, 8 * count))
+    for at in range(chain):
+        it.segment(PT_LOAD, top + 32 * at, (8 * count + 16 * at, 16))
+    # The CFA is the frame pointer and 16, the frame pointer 16 below it.
+    return walk(section([(0x1000, 16, 0, 1)], bytes([0, 4, 16, 0xF0])), it.file())
 
 
 def notes_last(size):
@@ -714,6 +735,14 @@ def loads_and_notes_of_a_module(size):
     return process(entries, shared_object(ONE_FUNCTION, 0x100000, segments, build), 1, falling(count) + [(PT_LOAD, last, build)])
 
 
+def process_with_a_short_identifier(size):
+    """A file with a build identifier of four bytes, which the core file has; and much memory that nothing needs."""
+    place, build, last = 64 + 56 * 3, note(NT_GNU_BUILD_ID, bytes([1, 2, 3, 4]), b"GNU\0"), 1 << 40
+    segments = [(kind, 4, place, last, len(build), len(build)) for kind in (PT_LOAD, PT_NOTE)]
+    entries = [OWN, (last - place % 4096, last + 4096, b"m", place // 4096)]
+    return process(entries, shared_object(ONE_FUNCTION, 0x100000, segments, build), 1, [(PT_LOAD, last, build + bytes(64)), (PT_LOAD, last << 1, bytes(size))])
+
+
 # ---- processes of which the files have call frame information
 # Where the files have it.
 EH_FRAME = 0x100000
@@ -739,6 +768,12 @@ def backtrace_over_signals(size):
     pc = 0x1000 + 16 * (count - 1) + 5
     notes = mapped([(0, 1 << 32, b"m")]) + threads(min(4096, size // 4096), pc)
     return backtrace(["m"], {"m": module}, [(PT_NOTE, 0, notes), (PT_LOAD, 0x7010, struct.pack("<QQ", 0x7010, pc))], 1024)
+
+
+def backtrace_over_signals_of_one_entry(size):
+    """Signal frames that name one long common information entry."""
+    module, _ = described(SIGNAL_CIE + bytes(size // 2), size // 2)
+    return backtrace(["m"], {"m": module}, [(PT_NOTE, 0, mapped([(0, 1 << 32, b"m")]) + threads(1)), stack()])
 
 
 def deep_backtrace(size):
