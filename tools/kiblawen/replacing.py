@@ -44,7 +44,7 @@ def folder_of(path):
 
 
 def open_in(folder, name):
-    """Opens a regular file of a folder: none where there is none of this name."""
+    """Opens a regular file of a folder, or returns none if the folder has no such file."""
     try:
         file = os.fdopen(os.open(name, FILE, dir_fd=folder), "rb")
     except OSError as fault:
@@ -152,7 +152,7 @@ def copy_attributes(old, new):
 
 
 def attributes(descriptor):
-    """The names of an open file's extended attributes: none where the file system has none."""
+    """Returns the names of an open file's extended attributes; the list is empty if the file system has none."""
     try:
         return os.listxattr(descriptor)
     except OSError as fault:
