@@ -120,8 +120,8 @@ class Plan:
 class Progress:
     """Reads what `rt ci` prints, and prints a line for each crate."""
 
-    def __init__(self, names, rt):
-        self.plan, self.count, self.rt, self.began = Plan(names), len(names), rt, time.monotonic()
+    def __init__(self, names, rt, began):
+        self.plan, self.count, self.rt, self.began = Plan(names), len(names), rt, began
         self.functions, self.all_functions, self.failed = 0, 0, None
 
     def read(self, line):
@@ -182,11 +182,12 @@ def prove(log):
         # It is the top of a repository.
         os.makedirs(os.path.join(COPY, ".git"))
         copy_crates(names, COPY)
-        progress = None
+        # `rt ci` prints its first line after the first crate.
+        progress, began = None, time.monotonic()
 
         def read(ran, line):
             nonlocal progress
-            progress = progress or Progress(names, ran.pid)
+            progress = progress or Progress(names, ran.pid, began)
             progress.read(line)
             return progress.failed is None
 
