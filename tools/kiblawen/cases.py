@@ -1,14 +1,60 @@
 """Runs the program on the cases of cases/, the files *.cases.
 
     ./x cases                             all, with the program that `rt ci` or `rt run` built
-    ./x cases TOPIC ..                    those of cases/TOPIC.cases, or of a file if TOPIC ends with .cases
+    ./x cases TOPIC ..                    the cases of cases/TOPIC.cases, or of a file if TOPIC ends with .cases
     ./x cases --tool PROGRAM [TOPIC ..]   with another program, such as /usr/bin/sf_tool
 
-Each run has its own folder with the files of its case, and 60 seconds. The status, both streams and every file that exists afterwards are
-compared byte by byte. A run that differs is shown with the expected and actual results. The last line is `N passed, M failed`; the status is 1
-if a run differs, if a case cannot be read, or if nothing was run. docs/testing.md describes the format.
+Each run has its own folder with the files of its case, no environment, an empty input, and 60 seconds. The status, both streams and every file
+that exists afterwards are compared byte by byte. A run that differs is shown with the expected and actual results. The last line is `N passed, M
+failed`; the status is 1 if a run differs, if a case cannot be read, or if nothing was run. Without --tool it takes crates/sf_tool/out/sf_tool,
+and refuses to start if a source is newer. It makes and compares some twenty thousand runs, as many in parallel as there are processors.
 
-It makes and compares some twenty thousand runs, as many in parallel as there are processors.
+A file of cases is text in UTF-8. Each line begins with a key. Blanks before the key, empty lines and lines that begin with # are ignored. Numbers
+are decimal, or hexadecimal after 0x. For example:
+
+    use sframe.bytes
+
+    case functions of two sections that share a byte
+      words merge m@0x3000 o@0x3000 p@0x3000
+      file o one-function-section
+      file p one-function-section
+        at 0x1c e9 df ff ff
+      status 5
+      errors refused link Overlap 0x1000 0x0 0x1005 0x1
+
+Bytes:
+
+    bytes NAME            begins named bytes
+    use FILE              reads another file of this folder, for its named bytes
+    XX XX ..              appends bytes, two lower-case hexadecimal digits each, to the bytes begun last
+    at OFFSET BYTE ..     writes these bytes at this offset, over existing ones and past their end
+    cut LENGTH            keeps only the first LENGTH bytes
+    zeros LENGTH          adds zeros to the file up to LENGTH, which are never written: a file of 2^40 bytes takes no room then
+
+A case:
+
+    case NAME             begins a case. The name is the fact that the run shows, and is unique in the file
+    words WORD ..         appends words of the command line. The line is required, even without words
+    word TEXT             appends one word: the rest of the line, which may contain blanks or be empty
+    rawword BYTE ..       appends one word of these bytes
+    times N WORD          appends a word N times
+    file NAME [BYTES]     begins a file that exists before the run, without bytes or with named ones. NAME may have folders
+    rawfile BYTES BYTE .. begins such a file with named bytes, whose name is these bytes
+    cut FIRST LAST        below `file`: runs the case once for each length from FIRST to LAST, with the file cut to it. In `output` and
+                          `errors` LENGTH is this length, as 0x and hexadecimal digits
+    row VALUE ..          runs the case once with these values, at most nine: $1 is the first, $2 the second, and so on, in the words and in
+                          `output` and `errors`
+    status N              the exit status
+    output TEXT           one line on standard output. Without such lines nothing is printed
+    errors TEXT           one line on standard error
+    outputs BYTES         standard output has the bytes of this name
+    leaves NAME [BYTES]   begins the bytes that this file has afterwards
+    closed STREAM         the stream (input, output or errors) is closed
+    full STREAM           the stream (output or errors) is /dev/full
+    to STREAM NAME        the stream (output or errors) goes to this file
+    memory N              the run has N KiB of address space
+
+Each file without a line `leaves` has to be as before, and no other file may exist. So a case of a refused run also shows that OUT was not created.
 """
 
 import concurrent.futures

@@ -3,11 +3,11 @@
     ./x closure                prints the table: the clauses of a run, and what each command comes to
     ./x closure --list TITLE   prints the definitions below a row of the table, with their files
     ./x closure --unreached    prints the definitions that no contract of a public function reaches
-    ./x closure --write        writes the table into docs/proof.md, between its two marks
-    ./x closure --check        fails if docs/proof.md has another table, or a file's first line says wrongly that it is inside the crate, or doesn't say so
+    ./x closure --check        fails if a file's first line is wrong on whether the file is inside the crate, as the gate does
 
 A definition is an item of a file crates/NAME/specs/*.antt; types that the source declares don't count. It rests on each
-definition that its text names, as its file imports them. The fields of records are not definitions.
+definition that its text names, as its file imports them. The fields of records are not definitions. A file that no contract of a public function
+reaches begins with "Inside the crate".
 """
 
 import collections
@@ -16,6 +16,7 @@ import os
 import re
 import sys
 
+from kiblawen import common
 from kiblawen.common import TOP
 
 HEAD = re.compile(r"^(?:abbrev |unfoldable )?(?:pub )?(?:record |data )?([^\s:]+)(?= |$)")
@@ -190,38 +191,20 @@ def show(found, definitions):
     print(f"{len(definitions)} of {len(found.lines)} definitions, {found.count(definitions)} lines")
 
 
-def keep(words, command, page, made, doc):
-    """Prints what a command makes, writes it into its page between the two marks, or compares."""
-    if words not in ([], ["--write"], ["--check"]):
-        print(doc, file=sys.stderr)
-        return 2
-    if not words:
-        print(made())
-        return 0
-    with open(f"{TOP}/docs/{page}", encoding="utf-8") as file:
-        text = file.read()
-    mark, end = f"<!-- made by ./x {command} -->\n", "<!-- end -->\n"
-    before, _, rest = text.partition(mark)
-    _, _, after = rest.partition(end)
-    anew = f"{before}{mark}{made()}\n{end}{after}"
-    if words == ["--write"]:
-        with open(f"{TOP}/docs/{page}", "w", encoding="utf-8") as file:
-            file.write(anew)
-    elif anew != text:
-        print(f"./x {command}: docs/{page} is not what the sources say; ./x {command} --write makes it anew", file=sys.stderr)
-        return 1
-    return 0
-
-
 def main(words):
     found = Definitions()
-    if words[:1] == ["--list"] and len(words) == 2 and words[1] in rows(found):
+    if not words:
+        common.print_text(table(found))
+    elif words[:1] == ["--list"] and len(words) == 2 and words[1] in rows(found):
         show(found, sorted(found.below(rows(found)[words[1]])))
     elif words == ["--unreached"]:
         show(found, unreached(found))
-    elif words == ["--check"] and (wrong := list(mismarked(found))):
-        print(f"./x closure: the first line says wrongly whether it is inside the crate: {', '.join(wrong)}", file=sys.stderr)
-        return 1
+    elif words == ["--check"]:
+        wrong = list(mismarked(found))
+        for path in wrong:
+            print(f"./x closure: the first line of {path} is wrong on whether the file is inside the crate", file=sys.stderr)
+        return int(bool(wrong))
     else:
-        return keep(words, "closure", "proof.md", lambda: table(found), __doc__)
+        print(__doc__, file=sys.stderr)
+        return 2
     return 0

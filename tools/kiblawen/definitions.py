@@ -1,22 +1,44 @@
-"""Makes the page of definitions from the comments in crates/NAME/specs.
+"""Prints what definitions mean: their texts with their comments, or a list of those that the clauses of a run rest on.
 
-    ./x definitions             prints the made part
-    ./x definitions --write     writes it into docs/definitions.md, between the marks
-    ./x definitions --check     fails if docs/definitions.md differs
+    ./x definitions            prints the list, by crate and file
+    ./x definitions NAME ..    prints these definitions, each with its file, its comment and what it names; or a crate's part of the list
+    ./x definitions --check    fails if a file, or a definition that the list shows with a text, has no comment, as the gate does
 
-Crates are in the order of crates.txt, files in that of specs/Lib.antt, definitions in that of their file. A comment before
-a definition says what it is. It also covers the definitions after it that have no comment of their own. A comment
-`-- ---- text` is a heading. A definition is shown with the first sentence of its comment if a contract of a public function
-names it and a run rests on it. Of the others only names are shown: those that a run rests on ("below"), and those that other
-contracts name ("inner"). A file with only such names is a line. What no run rests on and no contract names is not on the page.
+Definitions are the items of crates/NAME/specs/*.antt; the types that the sources declare are not among them. `./x install` writes the list
+as docs/definitions.md. A comment before a definition says what it is. It also covers the definitions after it that have no comment of their own;
+the first lines of a file cover those before its first comment. A comment `-- ---- text` is a heading.
 """
 
+import functools
 import os
 import re
+import sys
 
-from kiblawen import closure
+from kiblawen import closure, common
 from kiblawen import crates as crate_list
 from kiblawen.common import TOP
+
+HEAD = """# Definitions
+
+The definitions that the clauses of a run rest on, by crate and file; made by `./x definitions` from the comments in `crates/*/specs`.
+
+- The text below the name of a file is its first sentence. A file that restates a standard names the section.
+- A name with a text is one that contracts of public functions name. The text is the first sentence of its comment.
+- *Below* are the names that these rest on. *Inner* names are named by contracts, but no run rests on them.
+- `./x definitions NAME` prints a definition with its whole comment.
+
+| the comments say | the standard |
+|---|---|
+| GNU SFrame specification | [the SFrame format, Version 2](https://sourceware.org/binutils/docs/sframe-spec.html), with its errata 1 |
+| DWARF 5, DWARF 3 | [the DWARF debugging format](https://dwarfstd.org/dwarf5std.html) |
+| LSB Core, LSB | [Linux Standard Base Core, the chapter on exception frames](https://refspecs.linuxfoundation.org/LSB_5.0.0/LSB-Core-generic/LSB-Core-generic/ehframechpt.html) |
+| ELF64 gABI | [the generic ABI of System V](https://gabi.xinuos.com/) |
+| System V AMD64 psABI | [its supplement for AMD64](https://gitlab.com/x86-psABIs/x86-64-ABI) |
+| DWARF, or ELF, for the Arm 64-bit Architecture | [the Arm ABI](https://github.com/ARM-software/abi-aa) |
+| Linux core files | [core(5)](https://man7.org/linux/man-pages/man5/core.5.html); no standard describes them |
+| POSIX.1, ISO C | the standards of these names |
+
+"""
 
 
 def lines_of(path):
@@ -41,7 +63,7 @@ def first_sentence(text):
 
 
 def plain(comment):
-    """A comment as a page has it: what Markdown would read as a sign of its own, outside of names, is escaped."""
+    """A comment for a list: signs that Markdown would read as its own, outside of names, are escaped."""
     parts = " ".join(comment).split("`")
     parts[::2] = [re.sub(r"([*<\[\]])", r"\\\1", part) for part in parts[::2]]
     return "`".join(parts)
@@ -56,26 +78,31 @@ def files(crate):
 
 
 class File:
-    """The comments of a file: its head, and its definitions in groups, each with what is said of them."""
+    """The comments of a file: its head, and its definitions in groups, each with its comment; and the text of each definition."""
 
     def __init__(self, crate, name):
         self.module = crate, name
         lines = lines_of(f"{TOP}/crates/{crate}/specs/{name}.antt")
         heads = next((i for i, line in enumerate(lines) if not line.startswith("--")), len(lines))
         self.head = [line[2:].strip() for line in lines[:heads]]
-        self.groups = []
-        comment = []
+        self.groups, self.texts = [], {}
+        comment, text = [], None
         for line in lines[heads:]:
+            if line.startswith(("--", "use ", "pub use ", "infix")):
+                text = None
             if line.startswith("-- ----"):
                 comment = []
                 self.groups.append((None, [line[len("-- ----") :].strip()]))
             elif line.startswith("--"):
                 comment.append(line[2:].strip())
             elif line.startswith(closure.ITEM):
-                self.add(closure.HEAD.match(line)[1], comment)
-                comment = []
+                name = closure.HEAD.match(line)[1]
+                self.add(name, comment)
+                comment, text = [], self.texts.setdefault(name, [])
             elif line and not line.startswith("infix"):
                 comment = []
+            if text is not None:
+                text.append(line)
 
     def add(self, name, comment):
         if comment or not self.groups or self.groups[-1][0] is None:
@@ -87,7 +114,7 @@ class File:
         return [it for names, _ in self.groups for it in names or () if (*self.module, it) in wanted]
 
     def shown(self, trusted, cited):
-        yield f"### {self.link()}"
+        yield f"### {self.path()}"
         yield ""
         yield plain([first_sentence(" ".join(self.head))])
         yield ""
@@ -102,9 +129,30 @@ class File:
             yield f"- inner: {listed(inner)}"
         yield ""
 
-    def link(self):
+    def path(self):
         crate, name = self.module
-        return f"[{crate}/{name}](../crates/{crate}/specs/{name}.antt)"
+        return f"crates/{crate}/specs/{name}.antt"
+
+    def entry(self, name, found):
+        """A definition as its file has it, with the files of what it names."""
+        yield f"{self.path()}: {first_sentence(' '.join(self.head))}"
+        yield ""
+        at = next(at for at, (names, _) in enumerate(self.groups) if name in (names or ()))
+        # A heading is before the definitions that have no comment.
+        yield from (f"-- {line}" for line in self.groups[at][1] or at and self.groups[at - 1][1] or ())
+        yield from "\n".join(self.texts[name]).rstrip("\n").splitlines()
+        yield ""
+        for crate, file, other in sorted(found.uses[(*self.module, name)]):
+            yield f"  names {other} of crates/{crate}/specs/{file}.antt"
+
+    def uncommented(self, shown):
+        """The file, if it has no head; and names that the list has to show with a text, and that are two or more after the comment before them."""
+        if not self.head:
+            yield f"{self.path()} does not begin with a comment"
+        for names, comment in self.groups:
+            for name in (names or ())[2:]:
+                if comment and (*self.module, name) in shown:
+                    yield f"{self.path()}: {name} needs a comment"
 
 
 def said(comment):
@@ -116,22 +164,62 @@ def listed(names):
     return ", ".join(f"`{name}`" for name in names)
 
 
-def made():
-    found = closure.Definitions()
-    trusted, cited = found.below(closure.rows(found)["a run of any command"]), closure.cited(found)
-    counts = f"{len(trusted):,} of {len(found.lines):,} definitions are those that the clauses of a run rest on"
-    lines = [f"{counts}, {len(cited - trusted):,} are inner ones, and the others are not on this page."]
-    for crate in crates():
+class List:
+    """The list of the definitions that a run rests on, and of the inner ones."""
+
+    def __init__(self):
+        self.found = closure.Definitions()
+        self.trusted = self.found.below(closure.rows(self.found)["a run of any command"])
+        self.cited = closure.cited(self.found)
+
+    def counts(self):
+        counts = f"{len(self.trusted):,} of {len(self.found.lines):,} definitions are those that the clauses of a run rest on"
+        return f"{counts}, {len(self.cited - self.trusted):,} are inner ones, and the others are not listed."
+
+    def section(self, crate):
         read = [File(crate, name) for name in files(crate)]
-        outer = [it for it in read if it.names(trusted & cited)]
-        others = [it for it in read if it not in outer and it.names(trusted | cited)]
+        outer = [it for it in read if it.names(self.trusted & self.cited)]
+        others = [it for it in read if it not in outer and it.names(self.trusted | self.cited)]
         if outer or others:
-            lines += ["", f"## `{crate}`", ""]
-        lines += [line for it in outer for line in it.shown(trusted, cited)]
-        for kind, wanted in (("below", trusted), ("inner", cited - trusted)):
-            lines += [f"- {kind}, {it.link()}: {listed(it.names(wanted))}" for it in others if it.names(wanted)]
-    return "\n".join(lines).rstrip("\n")
+            yield from ["", f"## `{crate}`", ""]
+        yield from (line for it in outer for line in it.shown(self.trusted, self.cited))
+        for kind, wanted in (("below", self.trusted), ("inner", self.cited - self.trusted)):
+            yield from (f"- {kind}, {it.path()}: {listed(it.names(wanted))}" for it in others if it.names(wanted))
+
+
+@functools.lru_cache(maxsize=None)
+def page():
+    """The whole list, as a page."""
+    made = List()
+    lines = [made.counts(), *(line for crate in crates() for line in made.section(crate))]
+    return HEAD + "\n".join(lines).rstrip("\n") + "\n"
+
+
+def entries(names):
+    """The definitions of these names, or a crate's part of the list."""
+    found = closure.Definitions()
+    for wanted in names:
+        if wanted in crates():
+            yield from List().section(wanted)
+            continue
+        of_name = sorted(it for it in found.lines if it[2] == wanted)
+        if not of_name:
+            common.fail(__name__, f"no definition and no crate has the name {wanted}")
+        for crate, file, name in of_name:
+            yield from File(crate, file).entry(name, found)
 
 
 def main(words):
-    return closure.keep(words, "definitions", "definitions.md", made, __doc__)
+    parser = common.parser(__name__, __doc__)
+    parser.add_argument("--check", action="store_true")
+    parser.add_argument("names", nargs="*", metavar="NAME")
+    given = parser.parse_args(words)
+    if given.check:
+        made = List()
+        read = [File(crate, name) for crate in crates() for name in files(crate)]
+        wrong = [it for file in read for it in file.uncommented(made.trusted & made.cited)]
+        for it in wrong:
+            print(f"./x definitions: {it}", file=sys.stderr)
+        return int(bool(wrong))
+    common.print_text("\n".join(entries(given.names)) if given.names else page().rstrip("\n"))
+    return 0

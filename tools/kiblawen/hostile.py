@@ -8,7 +8,8 @@
 By default it runs the program that `sh demo/run` builds. A line has the input's name, its command and size, the processor time in seconds, the
 peak memory in MiB, the MiB of its files and of its output, its status, and the line on standard error. A line with EXCEEDS has a limit that
 was exceeded; the status is 1 if there is one. tools/kiblawen/inputs.py makes the inputs; each is well formed, or is refused at its end. The files
-made are in bench/out.
+made are in bench/out. The limits are the defaults of `Limits`, except where the table INPUTS has others; an input with None there has none. A new
+input needs a maker in inputs.py and a line in the table.
 """
 
 import collections

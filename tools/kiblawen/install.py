@@ -14,7 +14,7 @@ import os
 import shutil
 import tempfile
 
-from kiblawen import common, program, shared
+from kiblawen import clauses, common, definitions, program, shared
 
 DOCUMENTS = ["README.md", "CHANGELOG.md", "CONTRIBUTING.md", "SECURITY.md", "VERSION", "LICENSE-MIT", "LICENSE-APACHE"]
 # The scripts beside the program, and their modules.
@@ -22,6 +22,8 @@ SCRIPTS = ["kiblawen-add", "kiblawen-core"]
 MODULES = [
     "__init__.py", "add.py", "common.py", "core.py", "core_file.py", "elf.py", "program.py", "replacing.py", "symbols.py", "tables.py",
 ]
+# The documents that are made of the sources.
+LISTS = {"clauses.md": clauses.page, "definitions.md": definitions.page}
 LIBRARY_NAMES = {program.LIBRARY: "libkiblawen", program.LINK_LIBRARY: "libkiblawen_link"}
 # The quotes keep a folder with a blank in its name one word.
 PKG_CONFIG = """prefix={prefix}
@@ -78,6 +80,14 @@ class Installation:
         shutil.copyfile(path, to)
         os.chmod(to, mode)
 
+    def write(self, text, folder, name):
+        """A text as a file of a folder."""
+        os.makedirs(self.root + folder, exist_ok=True)
+        path = f"{self.root}{folder}/{name}"
+        with open(path, "w", encoding="utf-8", errors="surrogateescape") as file:
+            file.write(text)
+        os.chmod(path, 0o644)
+
     def put_all(self, version):
         self.put_program()
         self.put_library(version)
@@ -97,6 +107,8 @@ class Installation:
         for name in sorted(os.listdir(common.at_top("docs"))):
             if name.endswith((".md", ".svg")):
                 self.put(0o644, common.at_top("docs", name), f"{documents}/docs")
+        for name, made in LISTS.items():
+            self.write(made(), f"{documents}/docs", name)
 
     def put_library(self, version):
         """Installs the library that looks up, with its header and the Python module."""
@@ -126,13 +138,9 @@ class Installation:
         os.symlink(library.name, link)
 
     def put_pkg_config(self, name, text, version):
-        folder = f"{self.root}{self.libdir}/pkgconfig"
-        os.makedirs(folder, exist_ok=True)
         is_below = self.libdir.startswith(f"{self.prefix}/")
         named = f"${{prefix}}{self.libdir[len(self.prefix):]}" if is_below else self.libdir
-        with open(f"{folder}/{name}.pc", "w", encoding="utf-8", errors="surrogateescape") as file:
-            file.write(text.format(prefix=self.named, libdir=named, version=version))
-        os.chmod(f"{folder}/{name}.pc", 0o644)
+        self.write(text.format(prefix=self.named, libdir=named, version=version), f"{self.libdir}/pkgconfig", f"{name}.pc")
 
 
 def main(words):

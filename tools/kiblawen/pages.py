@@ -9,13 +9,11 @@ and the other lines are what it prints, on both streams. `cat NAME` of a missing
 follow. The sessions of a page share a folder, which is empty at first. Further words after `console` say what a session needs, as in NEEDS;
 if the machine does not have it, the session is skipped, with a line of its own. Each session has 60 seconds.
 
-Also, omissions.md and messages.md have to explain each name of a reason and of a fault, and each link of a page has to lead to a file of the
-repository and to a heading there. The last line is `N passed, M failed, K skipped`; the status is 1 if a session differs or cannot be read, if
-a name is not explained, if a link leads nowhere, or if nothing was run. docs/testing.md says more.
+What a session prints has to be the same on each machine, as it is with small sources for the assembler; what a compiler or linker lays out is
+not. The last line is `N passed, M failed, K skipped`; the status is 1 if a session differs or cannot be read, or if nothing was run.
+`./x docs --check` looks at links, and at names that a page has to explain.
 """
 
-import collections
-import glob
 import os
 import re
 import subprocess
@@ -163,68 +161,6 @@ def try_page(path, environment, missing):
     return passed, failed, skipped
 
 
-def sections(page):
-    """The text below each heading of the second level on a page, by heading."""
-    with open(os.path.join(FOLDER, page), encoding="utf-8") as file:
-        parts = re.split(r"^## (.*)$", file.read(), flags=re.MULTILINE)
-    return dict(zip(parts[1::2], parts[2::2]))
-
-
-def unexplained():
-    """The names that a line can have and that the pages do not explain: a reason or a group without a section, a fault that is not in its
-    group's section."""
-    reasons, messages = sections("omissions.md"), sections("messages.md")
-    with open(common.at_top("crates", "sf_text", "src", "names.rt"), encoding="utf-8") as file:
-        of_reasons, of_groups = (re.findall(r'=> "(\w+)"', function) for function in file.read().split("fn name_of_")[1:])
-    yield from (f"reason {name}" for name in of_reasons if name not in reasons)
-    yield from (f"group {name}" for name in of_groups if f"Group {name}" not in messages)
-    faults = named_faults()
-    yield from (f"group {group} without a fault" for group in of_groups if group not in {it for it, _ in faults})
-    for group, name in faults:
-        if not re.search(rf"\b{name}\b", messages.get(f"Group {group}", "")):
-            yield f"{group} {name}"
-
-
-def named_faults():
-    """The group and the name of each fault that a line can print, from the definitions. The line of a limit has no name of a fault."""
-    found = set()
-    for path in sorted(glob.glob(common.at_top("crates", "*", "specs", "FaultShown.antt"))):
-        with open(path, encoding="utf-8") as file:
-            found.update(re.findall(r'group\.(\w+) \d+ \(codes "(\w+)"\)', file.read()))
-    return sorted((group.lower(), name) for group, name in found if not name.startswith("TooMany"))
-
-
-def anchors(path):
-    """The names by which links reach the headings of a page."""
-    found, times = set(), collections.Counter()
-    with open(path, encoding="utf-8") as file:
-        text = re.sub(r"(?ms)^```.*?^```", "", file.read())
-    for heading in re.findall(r"(?m)^#+ (.*)$", text):
-        heading = re.sub(r"\[([^\]]*)\]\([^)]*\)", r"\1", heading)
-        name = re.sub(r"[^\w\- ]", "", heading.lower()).replace(" ", "-")
-        found.add(f"{name}-{times[name]}" if times[name] else name)
-        times[name] += 1
-    return found
-
-
-def lost_links():
-    """The links of the pages, in docs/ and at the top, that lead to no file of the repository, or to no heading of it."""
-    known = {}
-    for folder in (common.TOP, FOLDER):
-        for page in sorted(name for name in os.listdir(folder) if name.endswith(".md")):
-            with open(os.path.join(folder, page), encoding="utf-8") as file:
-                text = re.sub(r"(?ms)^```.*?^```|`[^`\n]*`", "", file.read())
-            for link in re.findall(r"\]\(([^)\s]+)\)", text):
-                name, _, anchor = link.partition("#")
-                if ":" in name:
-                    continue
-                path = os.path.normpath(os.path.join(folder, name)) if name else os.path.join(folder, page)
-                if path.endswith(".md") and os.path.isfile(path):
-                    known.setdefault(path, anchors(path))
-                if not os.path.exists(path) or anchor and anchor not in known.get(path, []):
-                    yield f"{os.path.relpath(os.path.join(folder, page), common.TOP)}: {link}"
-
-
 def main(words):
     parser = common.parser(__name__, __doc__)
     program.add_option(parser)
@@ -232,12 +168,7 @@ def main(words):
     given = parser.parse_args(words)
     tool = program.find(__name__, given.tool, has_to_be_new=True)
     pages = [os.path.abspath(path) for path in given.pages]
-    names, links = ([], []) if pages else (list(unexplained()), list(lost_links()))
     pages = pages or sorted(os.path.join(FOLDER, name) for name in os.listdir(FOLDER) if name.endswith(".md"))
-    for name in names:
-        print(f"FAILED {name}: docs/omissions.md explains the reasons, docs/messages.md the faults, and none has this one")
-    for link in links:
-        print(f"FAILED {link} leads nowhere")
     with tempfile.TemporaryDirectory(prefix="tool-") as folder:
         os.symlink(tool, os.path.join(folder, "sf_tool"))
         for name in install.SCRIPTS:
@@ -246,6 +177,5 @@ def main(words):
         missing = missing_needs(environment)
         counts = [try_page(path, environment, missing) for path in pages]
     passed, failed, skipped = (sum(column) for column in zip(*counts))
-    failed += len(names) + len(links)
     print(f"{passed} passed, {failed} failed, {skipped} skipped")
     return 1 if failed or not passed else 0

@@ -85,11 +85,10 @@ def glibc_of(path):
 
 
 def public_functions():
-    """The public functions that have clauses, as on the page of clauses."""
+    """The public functions that have clauses, as `./x clauses` lists them."""
     for crate in definitions.crates():
-        names = clauses.exported(crate)
-        for path in glob.glob(common.at_top("crates", crate, "src", "*.rt")):
-            yield from (it for it in clauses.Source(path, names).functions if it.clauses)
+        for source in clauses.sources(crate):
+            yield from (it for it in source.functions if it.clauses)
 
 
 def note(release):
