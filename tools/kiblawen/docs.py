@@ -7,6 +7,7 @@
 - docs/omissions.md has no heading, and no row of a table, for a reason against a function;
 - docs/messages.md has no section for a group of faults, or the section lacks a fault;
 - neither of the two has a row for a stop of a walk;
+- the pages together have more words than MOST_WORDS, or README.md has more than MOST_IN_README, by `wc -w`;
 - `./x closure`, `./x definitions` or `./x clauses` misses something in the sources.
 """
 
@@ -20,6 +21,9 @@ from kiblawen import clauses, closure, commands, common, definitions, picture
 FOLDER = common.at_top("docs")
 # What makes parts of pages, and what is printed when it is asked for. Each has a `main` that takes `--check`, and the first ones `--write`.
 MAKERS, PRINTERS = [commands, picture], [closure, definitions, clauses]
+# The pages whose words count, as patterns.
+WORDS = ["README.md", "docs/*.md", "man/*", "include/*", "CHANGELOG.md", "CONTRIBUTING.md", "SECURITY.md"]
+MOST_WORDS, MOST_IN_README = 27_000, 900
 
 
 def sections(page):
@@ -106,10 +110,21 @@ def lost_links():
                     yield f"{os.path.relpath(os.path.join(folder, page), common.TOP)}: {link}"
 
 
+def words_of(path):
+    with open(path, encoding="utf-8") as file:
+        return len(file.read().split())
+
+
 def faults():
     """What is wrong with the text of the pages."""
     yield from (f"{it} leads nowhere" for it in lost_links())
     yield from (f"{it}: docs/omissions.md or docs/messages.md has to explain it" for it in unexplained())
+    words = sum(words_of(path) for pattern in WORDS for path in glob.glob(common.at_top(pattern)))
+    if words > MOST_WORDS:
+        yield f"the pages have {words:,} words, more than {MOST_WORDS:,}"
+    words = words_of(common.at_top("README.md"))
+    if words > MOST_IN_README:
+        yield f"README.md has {words:,} words, more than {MOST_IN_README:,}"
 
 
 def main(words):
