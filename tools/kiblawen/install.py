@@ -5,9 +5,9 @@
     DESTDIR=/tmp/root ./x install /usr                 the files go below /tmp/root, for use below /usr
 
 PREFIX and DESTDIR are relative to the folder where the script is started, LIBDIR to PREFIX. DESTDIR is for packages: no installed
-file names it. First build the program with `sh demo/run`, and the C libraries with `./x build --libraries`; a library that isn't built is
-omitted. The shared libraries are made from the archives by a C compiler ($CC, or cc); without one they are omitted. A line says what is
-omitted. Nothing else is needed, and nothing outside the prefix changes.
+file names it. Two of the documents are what `./x definitions` and `./x clauses` print. First build the program with `sh demo/run`, and the C
+libraries with `./x build --libraries`; a library that isn't built is omitted. The shared libraries are made from the archives by a C compiler
+($CC, or cc); without one they are omitted. A line says what is omitted. Nothing else is needed, and nothing outside the prefix changes.
 """
 
 import os

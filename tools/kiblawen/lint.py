@@ -1,6 +1,7 @@
 """Runs linters over the scripts of the repository, if this machine has them, and looks for words on the pages that plain English doesn't need.
 
-    ./x lint
+    ./x lint               what the gate runs
+    ./x lint CRATE ..      also searches the comments of these crates
 
 Shell scripts are read by shellcheck, Python by pyflakes or else by pylint, for errors only. A missing linter is named. The pages, the man pages
 and the comments of the headers are searched for the patterns of INSTEAD, outside of code: each place is shown with what to write. The status is 1
@@ -51,6 +52,8 @@ CODE = {
     ".md": r"(?ms)^```.*?^```|^<!-- made by.*?^<!-- end -->|`[^`\n]*`|\]\([^)\s]*\)",
     ".h": r"(?s)(?:^|\*/).*?(?:/\*|$)",
     ".1": r'(?ms)^\.\\" made by.*?^\.\\" end of',
+    ".rt": r"(?m)^(?!\s*//).*$|`[^`\n]*`",
+    ".antt": r"(?m)^(?!\s*--).*$|`[^`\n]*`",
 }
 
 
@@ -89,13 +92,15 @@ def foreign(pages):
     for page in pages:
         text = prose(common.at_top(page))
         for pattern, instead in INSTEAD.items():
-            # A line may end within a pattern, and a comment's next line begins with a star.
-            for found in re.finditer(rf"\b({pattern})\b".replace(" ", r"[\s*]+"), text, re.IGNORECASE):
+            # A line may end within a pattern, and a comment's next line begins with its sign.
+            for found in re.finditer(rf"\b({pattern})\b".replace(" ", r"[\s*/-]+"), text, re.IGNORECASE):
                 yield f"{page}:{text.count(chr(10), 0, found.start()) + 1}: `{' '.join(found[0].split())}`: write {instead}"
 
 
 def main(words):
-    common.parser(__name__, __doc__).parse_args(words)
+    parser = common.parser(__name__, __doc__)
+    parser.add_argument("crates", nargs="*", metavar="CRATE")
+    given = parser.parse_args(words)
     failed = 0
     for name, paths in scripts().items():
         linter = next((it for it in LINTERS[name] if shutil.which(it[0])), None)
@@ -105,9 +110,10 @@ def main(words):
         status = common.status_of([*linter, *paths], cwd=common.TOP)
         failed |= status != 0
         print(f"lint: {len(paths)} scripts in {name} by {linter[0]}: {'FAILED' if status else 'nothing to report'}", flush=True)
-    pages = sorted(os.path.relpath(it, common.TOP) for pattern in PAGES for it in glob.glob(common.at_top(pattern)))
+    patterns = PAGES + [f"crates/{crate}/{part}" for crate in given.crates for part in ("src/*.rt", "specs/*.antt")]
+    pages = sorted(os.path.relpath(it, common.TOP) for pattern in patterns for it in glob.glob(common.at_top(pattern)))
     found = list(foreign(pages))
     for it in found:
         print(it)
-    print(f"lint: the English of {len(pages)} pages: {'FAILED' if found else 'nothing to report'}")
+    print(f"lint: the English of {len(pages)} files: {'FAILED' if found else 'nothing to report'}")
     return int(failed or bool(found))
