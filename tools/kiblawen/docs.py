@@ -4,9 +4,9 @@
     ./x docs --check     fails if a page has others, as the gate does, and in these cases:
 
 - a link of a page leads to no file of the repository, or to no heading there;
-- docs/omissions.md has no heading, and no row of a table, for a reason against a function;
+- docs/omissions.md has no heading, row of a table or item of a list for a reason against a function;
 - docs/messages.md has no section for a group of faults, or the section lacks a fault;
-- neither of the two has a row for a stop of a walk;
+- neither of the two has a row or an item for a stop of a walk;
 - the pages together have more words than MOST_WORDS, or README.md has more than MOST_IN_README, by `wc -w`;
 - `./x closure`, `./x definitions` or `./x clauses` misses something in the sources.
 """
@@ -41,9 +41,9 @@ def sections(page):
     return found
 
 
-def rows(sections_of_page):
-    """The first cell of each row of the tables."""
-    return [cell for text in sections_of_page.values() for cell in re.findall(r"(?m)^\| ([^|]*) \|", text)]
+def rows(texts):
+    """The first cell of each row of the tables, and the name with which an item of a list begins."""
+    return [cell or name for text in texts.values() for cell, name in re.findall(r"(?m)^(?:\| ([^|]*) \||- (`\w+`))", text)]
 
 
 def has_name(name, texts):
