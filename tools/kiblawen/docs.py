@@ -42,8 +42,8 @@ def sections(page):
 
 
 def rows(texts):
-    """The first cell of each row of the tables, and the name with which an item of a list begins."""
-    return [cell or name for text in texts.values() for cell, name in re.findall(r"(?m)^(?:\| ([^|]*) \||- (`\w+`))", text)]
+    """The first cell of each row of the tables, and the name or line with which an item of a list begins."""
+    return [cell or name for text in texts.values() for cell, name in re.findall(r"(?m)^(?:\| ([^|]*) \||- (`[^`\n]+`))", text)]
 
 
 def has_name(name, texts):
