@@ -117,7 +117,7 @@ def rows(found):
         name = NAMED.get(file, file)
         if crate in COMMANDS and f"Is{name}" in names:
             commands[f"`{name.lower()}`"] = [names[f"{name}Comes"]]
-    return titles | dict(sorted(commands.items()))
+    return {**titles, **dict(sorted(commands.items()))}
 
 
 def table(found):

@@ -96,9 +96,9 @@ class File:
             elif line.startswith("--"):
                 comment.append(line[2:].strip())
             elif line.startswith(closure.ITEM):
-                name = closure.HEAD.match(line)[1]
-                self.add(name, comment)
-                comment, text = [], self.texts.setdefault(name, [])
+                defined = closure.HEAD.match(line)[1]
+                self.add(defined, comment)
+                comment, text = [], self.texts.setdefault(defined, [])
             elif line and not line.startswith("infix"):
                 comment = []
             if text is not None:
