@@ -1,18 +1,15 @@
 /*
  * kiblawen-link: makes, merges, shortens and verifies SFrame Version 2 sections, for programs that walk stacks by kiblawen.h.
+ * Link with libkiblawen_link and libkiblawen (pkg-config kiblawen-link). C11 and C++11.
  *
- * Give the files of a process as they were read, with their load addresses. Take the section, and open it by
- * kiblawen_open. Link with libkiblawen_link.a and libkiblawen (pkg-config --cflags --libs kiblawen-link). C11 and C++11.
- *
- * kiblawen_place allocates nothing. The other calls allocate by the program's malloc, realloc and free, and free all of
- * it before they return; libkiblawen allocates nothing, and doesn't need this library. What each call returns and writes is
- * proved, for all files and sections, provided the caller meets the conditions of kiblawen.h (1 to 4), and these two:
+ * The calls give what sf_tool's commands of these names give. All but kiblawen_place allocate, and free that before they return.
+ * Results are proved for all files and sections, if the caller meets the conditions of kiblawen.h, and these two:
  *
  *   5. malloc, realloc and free are one allocator, and align as C requires. They may fail at any time.
  *   6. The bytes of files and sections don't change during a call.
  *
- * A call that allocates is not for a signal handler, nor for the child of a process with threads after fork(). A call takes
- * less than 32 kB of stack. Several threads may call at once. That and the stack are tested, but are not part of the proof.
+ * Only kiblawen_place may be called in a signal handler, or in the child of a multithreaded process after fork(). Tested, not
+ * proved: several threads may call at once, and a call takes less than 32 kB of stack.
  */
 #ifndef KIBLAWEN_LINK_H
 #define KIBLAWEN_LINK_H
@@ -23,34 +20,34 @@
 extern "C" {
 #endif
 
-/* What the bytes of an input are. */
+/* The kind of an input. */
 enum kiblawen_kind {
-    KIBLAWEN_ELF = 0,             /* an ELF file: a relocatable object, a program or a shared object */
+    KIBLAWEN_ELF = 0,             /* a relocatable object, a program or a shared object */
     KIBLAWEN_EH_FRAME_AMD64 = 1,  /* a bare .eh_frame section, as it is in memory */
     KIBLAWEN_EH_FRAME_AARCH64 = 2
 };
 
-/* An input: all its bytes, and the address at which it is loaded (of a bare section, that of its first byte). */
+/* An input: all its bytes, and its load address (for a bare section, its first byte's address). */
 struct kiblawen_input {
-    const uint8_t *bytes; /* not null */
+    const uint8_t *bytes;
     size_t len;
     uint64_t base;
     uint32_t kind; /* enum kiblawen_kind */
 };
 
-/* A function that is omitted: the fields of the line `omit` that sf_tool prints. */
+/* An omitted function, as in the line `omit` (docs/omissions.md). */
 struct kiblawen_omission {
     uint64_t start;
     uint64_t size;
-    uint32_t input;      /* the number of its input, from 0 on */
-    uint32_t section;    /* the number of its .eh_frame, 0 for a bare one */
-    uint32_t place;      /* of its record in that section */
+    uint32_t input;      /* from 0 on */
+    uint32_t section;    /* its .eh_frame's number, 0 for a bare one */
+    uint32_t place;      /* its record's offset in that section */
     uint32_t reason;     /* enum kiblawen_reason */
     uint32_t has_offset; /* 0 if the reason is the whole function's */
     uint32_t offset;     /* the first offset in the function at which it holds */
 };
 
-/* Why a function is omitted: docs/omissions.md has a section for each. */
+/* Why a function is omitted. */
 enum kiblawen_reason {
     KIBLAWEN_EMPTY_RANGE = 1,
     KIBLAWEN_SIZE_TOO_LARGE = 2,
@@ -69,7 +66,7 @@ enum kiblawen_reason {
     KIBLAWEN_SIGN_STATE = 15
 };
 
-/* A procedure linkage table: the fields of the line `plt` that sf_tool prints. */
+/* A procedure linkage table, as in the line `plt`. */
 struct kiblawen_plt {
     uint64_t start;
     uint64_t size;
@@ -78,57 +75,52 @@ struct kiblawen_plt {
     uint32_t place;
 };
 
-/*
- * The first fault, as the line `refused` of sf_tool has it (docs/messages.md); all zeros if there is none. In a fault of
- * kiblawen_verify the section is item 0, and the inputs are numbered from 1 on.
- */
+/* The first fault, as in the line `refused` (docs/messages.md), or zeros. For kiblawen_verify item 0 is the section. */
 struct kiblawen_refusal {
     uint32_t group;     /* 1 elf, 2 place, 3 reloc, 4 record, 5 insn, 6 machine, 7 section, 10 link */
     uint32_t number;    /* of the fault in its group, from 1 on */
-    uint32_t has_input; /* 0 if the fault is that of all items together */
-    uint32_t input;     /* the number of the item */
-    uint64_t values[4]; /* what the line prints, and zeros after it */
+    uint32_t has_input; /* 0 if it concerns no single item */
+    uint32_t input;     /* the item's number */
+    uint64_t values[4]; /* as printed, then zeros */
 };
 
-/* What the calls return. After an answer other than KIBLAWEN_MADE the room for the section is unchanged. */
+/* The answer of a call. After any but KIBLAWEN_MADE the room for the section is unchanged. */
 enum kiblawen_answer {
-    KIBLAWEN_MADE = 0,           /* the section is made, or agrees; the file is loaded */
-    KIBLAWEN_NO_ROOM = 1,        /* the room is too short: `len` is the section's length */
-    KIBLAWEN_DIFFERS = 1,        /* kiblawen_verify: the section and the inputs differ */
+    KIBLAWEN_MADE = 0,           /* or the section agrees, or the file is loaded */
+    KIBLAWEN_NO_ROOM = 1,        /* `len` is the section's length */
+    KIBLAWEN_DIFFERS = 1,        /* kiblawen_verify */
     KIBLAWEN_NOT_LOADED = 1,     /* kiblawen_place: no segment is loaded, or one reaches into the last page */
     KIBLAWEN_REFUSED = 2,        /* `why` has the fault */
-    KIBLAWEN_OVER_FUNCTIONS = 3, /* more than 2^21 functions */
-    KIBLAWEN_OVER_ROWS = 4,      /* more than 2^24 rows */
+    KIBLAWEN_OVER_FUNCTIONS = 3, /* more than 2^21 */
+    KIBLAWEN_OVER_ROWS = 4,      /* more than 2^24 */
     KIBLAWEN_NO_MEMORY = 5,      /* malloc or realloc failed */
-    KIBLAWEN_UNFIT = 6           /* an argument that can't be taken: each call says which */
+    KIBLAWEN_UNFIT = 6           /* an unfit argument: each call says which */
 };
 
-/* The numbers of what was linked; all zeros, but for `why`, if nothing was. */
+/* What was made; all zeros, but for `why`, if nothing was. */
 struct kiblawen_linked {
-    size_t len;         /* the section's length in bytes */
-    uint32_t functions; /* that are kept as they are */
+    size_t len;         /* of the section, in bytes */
+    uint32_t functions; /* kept ones */
     size_t omitted;     /* functions */
-    size_t plts;        /* procedure linkage tables that have rows, each two functions of the section; 0 by kiblawen_link */
+    size_t plts;        /* procedure linkage tables, two functions of the section each; 0 by kiblawen_link */
     struct kiblawen_refusal why;
 };
 
 /*
- * Makes the section of 1 to 512 inputs, to be opened at the address `at`, and writes it to the first `len` bytes of `out`.
- * Also writes the omitted functions to `omitted`, by rising start, as many as there is room for: 0 is enough. The rest of
- * both is unchanged. The section, the omitted functions and the refusals are those of `sf_tool link`.
- *
- * KIBLAWEN_UNFIT: no input or more than 512, one of 2^32 bytes or more, or a kind that there isn't.
+ * Links 1 to 512 inputs. Writes their section, for the address `at`, to the first `len` bytes of `out`, and the omitted
+ * functions to `omitted`, by rising start, as many as there is room for (0 is enough). The rest of both is unchanged.
+ * KIBLAWEN_UNFIT: no input or more than 512, one of 2^32 bytes or more, or an unknown kind.
  */
 uint32_t kiblawen_link(const struct kiblawen_input *inputs, size_t count, uint64_t at, uint8_t *out, size_t room,
                        struct kiblawen_omission *omitted, size_t omitted_room,
                        struct kiblawen_linked *linked) KIBLAWEN_NONNULL;
 
-/* Does the same as `sf_tool linkplt`: plain lazy procedure linkage tables of AMD64 have rows, and are written to `plts`. */
+/* The same with rows for plain lazy procedure linkage tables of AMD64, which are written to `plts`. */
 uint32_t kiblawen_linkplt(const struct kiblawen_input *inputs, size_t count, uint64_t at, uint8_t *out, size_t room,
                           struct kiblawen_omission *omitted, size_t omitted_room, struct kiblawen_plt *plts,
                           size_t plts_room, struct kiblawen_linked *linked) KIBLAWEN_NONNULL;
 
-/* The numbers of a section that was made of sections; all zeros, but for `why`, if nothing was. */
+/* The same of a section that is made of sections. */
 struct kiblawen_made {
     size_t len;
     uint32_t functions;
@@ -136,26 +128,21 @@ struct kiblawen_made {
     struct kiblawen_refusal why;
 };
 
-/*
- * Makes the section that `sf_tool slim` makes of an open section: it recovers the same, and has no row that isn't needed.
- *
- * KIBLAWEN_UNFIT: the section is closed.
- */
+/* Makes the section that recovers the same as an open one, without redundant rows. KIBLAWEN_UNFIT: it is closed. */
 uint32_t kiblawen_slim(const struct kiblawen_section *section, uint64_t at, uint8_t *out, size_t room,
                        struct kiblawen_made *slimmed) KIBLAWEN_NONNULL;
 
 /*
- * Makes the section that `sf_tool merge` makes of 1 to 512 open sections. All functions have to be within 2 GiB of it.
- *
- * KIBLAWEN_UNFIT: no section or more than 512, or one is closed.
+ * Makes one section of 1 to 512 open ones, whose functions are within 2 GiB of it. KIBLAWEN_UNFIT: no section or more than
+ * 512, or one is closed.
  */
 uint32_t kiblawen_merge(const struct kiblawen_section *sections, size_t count, uint64_t at, uint8_t *out, size_t room,
                         struct kiblawen_made *merged) KIBLAWEN_NONNULL;
 
-/* The content of a row: the fields of `struct kiblawen_row`. */
+/* A row's content: the fields of `struct kiblawen_row`. */
 struct kiblawen_content {
     uint32_t is_known; /* 0 if there is none; all is 0 then */
-    uint32_t base;     /* enum kiblawen_base */
+    uint32_t base;
     int32_t cfa_offset;
     uint32_t ra_saved;
     int32_t ra_offset;
@@ -164,11 +151,11 @@ struct kiblawen_content {
     uint32_t is_signed; /* 1 if the return address is signed */
 };
 
-/* A verdict: the numbers if the section agrees, or the first address at which it differs, with both contents there. */
+/* A verdict: the numbers if the section agrees, or the first address at which it differs, with both contents. */
 struct kiblawen_verdict {
-    uint32_t checked; /* plain functions of the section, which agree */
-    uint32_t missing; /* functions that SFrame can express and the section doesn't have */
-    uint32_t repeats; /* functions of repeated blocks, which are not compared */
+    uint32_t checked; /* plain functions, which agree */
+    uint32_t missing; /* functions that SFrame can express and the section lacks */
+    uint32_t repeats; /* functions of repeated blocks, which aren't compared */
     uint64_t pc;
     struct kiblawen_content section;
     struct kiblawen_content dwarf; /* of the call frame information, if it can be expressed */
@@ -176,34 +163,28 @@ struct kiblawen_verdict {
 };
 
 /*
- * Compares an open section with 1 to 512 inputs, as `sf_tool verify` does. Returns KIBLAWEN_MADE if at each address at which
- * a plain function of the section has a row the call frame information recovers the same.
- *
- * KIBLAWEN_UNFIT: as for kiblawen_link, or the section is closed.
+ * Compares an open section with 1 to 512 inputs. It agrees if the inputs recover the same wherever a plain function of the
+ * section has a row. KIBLAWEN_UNFIT: as for kiblawen_link, or the section is closed.
  */
 uint32_t kiblawen_verify(const struct kiblawen_section *section, const struct kiblawen_input *inputs, size_t count,
                          struct kiblawen_verdict *verdict) KIBLAWEN_NONNULL;
 
-/* Where a file is loaded, and which build it is. The addresses `first` and `after` are the file's own. */
+/* Where a file is loaded, and which build it is. */
 struct kiblawen_placed {
-    uint64_t first;      /* the page of the first loaded segment: 0 in most files */
+    uint64_t first;      /* the page of the first loaded segment, in the file's own addresses: 0 in most files */
     uint64_t after;      /* the first page after the last loaded byte, where its table can be */
-    uint64_t load;       /* what is added to the file's addresses: the base of an input, by the mapping; or 0 */
+    uint64_t load;       /* what is added to the file's addresses: the base of an input; or 0 */
     uint32_t has_load;   /* 1 if exactly one executable segment can be mapped so */
-    uint64_t build_id;   /* the place in the file of its build identifier (NT_GNU_BUILD_ID) */
+    uint64_t build_id;   /* the offset in the file of its build identifier (NT_GNU_BUILD_ID) */
     size_t build_id_len; /* 0 if it has none */
     struct kiblawen_refusal why;
 };
 
 /*
- * Reads where an ELF file is loaded, by the size of a page, sysconf(_SC_PAGESIZE), and an executable mapping: its first
- * address `start`, and the place in the file of its first byte, `offset` (the first and third field of a line of
- * /proc/PID/maps, or those of perf's record of a mapping). The file is at the addresses `load + first` to before
- * `load + after`.
- *
- * The load address isn't the start of the first mapping: for a program that isn't position-independent it is 0.
- * A segment can be mapped so if its pages have the byte at `offset`: then load + p_vaddr + (offset - p_offset) is `start`,
- * modulo 2^64. There is no load address if none can, or several can.
+ * Finds where an ELF file is loaded, from the size of a page, sysconf(_SC_PAGESIZE), and an executable mapping: its first address
+ * and its offset in the file (the first and third field of a line of /proc/PID/maps). The file is at `load + first` to before
+ * `load + after`. A segment can be mapped so if its pages have the byte at `offset`: then load + p_vaddr + (offset - p_offset)
+ * is `start`, modulo 2^64. For a program that isn't position-independent, load is 0.
  *
  * KIBLAWEN_UNFIT: a page of 0 bytes, or a file of 2^32 bytes or more.
  */
