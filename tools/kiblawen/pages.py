@@ -88,7 +88,11 @@ class Session:
             )
         except subprocess.TimeoutExpired:
             return [f"  the session had not ended after {SECONDS} seconds"]
-        parts = ran.stdout.decode(errors="backslashreplace").split(f"{MARK}\n")
+        return self.compare(ran.stdout.decode(errors="backslashreplace"))
+
+    def compare(self, printed):
+        """Shows what differs from the page in what the script has printed."""
+        parts = printed.split(f"{MARK}\n")
         if len(parts) != len(self.commands) + 1 or parts[-1]:
             return ["  the session ended early, or the shell could not read it", *indented(parts[-1].splitlines())]
         found = []

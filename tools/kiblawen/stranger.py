@@ -6,14 +6,14 @@
 First run `./x release`. It needs the rights of root for chroot, and gdb and a C compiler for a core file. The copies of a root are links
 to its files, in a temporary folder beside it, so they take little room. ROOT gets lines in dpkg's log.
 
-The package kiblawen: README's example, kiblawen-add on its program, procwalk, procbacktrace and kiblawen-core on a core file that is copied in,
-beside gdb; then it is removed.
-The packages libkiblawen0 and libkiblawen-dev: the program of docs/library.md, built by pkg-config, walks a sample with a table that is
-copied in: with the archive, and with the shared library, also after libkiblawen-dev is removed.
+The package kiblawen: the tutorial's first table, kiblawen-add on a program, procwalk, procbacktrace and kiblawen-core on a core file that is
+copied in, beside gdb; then it is removed.
+The packages libkiblawen0, libkiblawen-link0 and libkiblawen-dev: the walker of docs/library.md, built by pkg-config, makes the table of the
+tutorial's program and walks a sample: with the archives, and with the shared libraries, also after libkiblawen-dev is removed.
 The package python3-kiblawen: the same walk in Python.
-The tarball: README's example, kiblawen-add, and example/walk-self.c, built by pkg-config, walks its own stack beside backtrace().
-The LLVM modules: the newest clang of the root builds program and library, and README's example runs. The static program: it runs in a
-folder in which there is no other file.
+The tarball: the tutorial's first table, kiblawen-add, and example/walk-self.c, built by pkg-config, walks its own stack beside backtrace().
+The LLVM modules: the newest clang of the root builds program and library, and the tutorial's first table is made. The static program: it runs
+in a folder in which there is no other file.
 At last a clone in another folder makes the same release from the same program, library and modules: the checksums are the same.
 
 The last line is `N passed, M failed, K skipped`. The status is 1 if a part failed.
@@ -27,7 +27,7 @@ import subprocess
 import sys
 import tempfile
 
-from kiblawen import built, common, module, program, release, shared, staging, stopping
+from kiblawen import built, common, module, pages, program, release, shared, staging, stopping
 
 SUITE = "bookworm"
 DEBOOTSTRAP = ["debootstrap", "--variant=minbase", "--include=gcc,libc6-dev,binutils,pkgconf,python3,clang-19", SUITE]
@@ -39,7 +39,7 @@ TARBALL = "/try/kiblawen"
 # How a command is begun in a root, and with /proc there. That is mounted for this command alone.
 CHROOT = ("chroot",)
 WITH_PROC = ("unshare", "--mount", "sh", "-c", 'mount -t proc proc "$0/proc" && exec chroot "$0" "$@"')
-# Adds to FILE, below with/, the table of FILE: as the tutorial does it.
+# Makes copies of FILES below with/, each with its table in a section that is marked as loaded.
 WITH = """
 mkdir -p with
 for file in FILES; do
@@ -59,31 +59,37 @@ int main(void)
     return numbers[0];
 }
 """
-# Walks a sample whose stack holds one value, with the function of docs/library.md.
+# A program that is given a table.
+PRINTS = """
+#include <stdio.h>
+int main(int argc, char **argv) { return puts(argv[argc - 1]) < 0; }
+"""
+# Walks a sample at the beginning of the tutorial's function count, whose stack holds one value, with the walker of docs/library.md.
 WALKS = """
-#include <stdlib.h>
+#include <stdio.h>
 int main(int argc, char **argv)
 {
     static uint8_t bytes[1 << 20];
-    FILE *file = argc == 5 ? fopen(argv[1], "rb") : NULL;
-    if (file == NULL)
-        return 1;
-    size_t len = fread(bytes, 1, sizeof bytes, file);
-    uint64_t top = strtoull(argv[4], NULL, 0);
+    static const uint64_t stack = 0x4242;
     struct kiblawen_sample sample = {
-        .pc = strtoull(argv[3], NULL, 0), .sp = 0x1000,
-        .stack = (const uint8_t *)&top, .stack_len = sizeof top, .stack_start = 0x1000,
+        .pc = 0x40100e, .sp = 0x1000, .stack = (const uint8_t *)&stack, .stack_len = sizeof stack, .stack_start = 0x1000,
     };
-    print_frames(bytes, len, strtoull(argv[2], NULL, 0), &sample);
+    struct kiblawen_module_frame frames[64];
+    FILE *file = argc == 2 ? fopen(argv[1], "rb") : NULL;
+    size_t len = file ? fread(bytes, 1, sizeof bytes, file) : 0;
+    add_file(bytes, len, 0x401000, 0x1000);
+    size_t found = index_files() ? walk_sample(&sample, frames, 64) : 0;
+    for (size_t i = 0; i < found; i++)
+        printf("0x%llx\\n", (unsigned long long)frames[i].pc);
     return 0;
 }
 """
 WALKS_IN_PYTHON = """
-import kiblawen, sys
-section = kiblawen.Section(open("echo.sframe", "rb").read(), int(sys.argv[1], 16))
-walk = section.walk(kiblawen.Sample(0x1139, 0x1000, 0, (0x4242).to_bytes(8, "little")))
+import kiblawen
+walk = kiblawen.link("count").walk(kiblawen.Sample(0x40100e, 0x1000, 0, (0x4242).to_bytes(8, "little")))
 print("\\n".join(hex(it.pc) for it in walk.frames))
 """
+WALKED = "0x40100e\n0x4242\n"
 WALK_SELF = """
 cc -std=gnu11 -O1 $(pkg-config --cflags kiblawen) -o walk-self walk-self.c $(pkg-config --libs kiblawen)
 mkdir tables
@@ -151,34 +157,21 @@ def block(page, heading, kind=""):
     return re.search(rf"(?ms)^{heading}$.*?^```{kind}\n(.*?)^```", text)[1].splitlines()
 
 
-def example():
-    """README's example: a script, and what it prints. `cat FILE` there makes the file of the lines that follow."""
-    script, prints, source = [], [], None
-    for line in block("README.md", "## An example"):
-        if line.startswith("$ "):
-            script += ["END"] if source else []
-            source = re.fullmatch(r"\$ cat (\S+)", line)
-            script.append(f"cat >{source[1]} <<'END'" if source else line[2:])
-        else:
-            (script if source else prints).append(line)
-    return "\n".join(script) + "\necho $at >at\n", "\n".join(prints) + "\n"
-
-
-def without_numbers(text):
-    """A report without the numbers of sections, which depend on the linker."""
-    return re.sub(r"section \d+", "section", text)
-
-
-def try_example(tries, root, name):
-    script, prints = example()
-    status, said = root.run(script)
-    passed = status == 0 and without_numbers(said) == without_numbers(prints)
-    tries.check(f"{name}: README's example prints what README shows", passed, f"status {status}\n{said}")
+def try_tutorial(tries, root, name):
+    """The tutorial's sessions that need an assembler and a linker alone: its first table, look-ups and `verify`."""
+    sessions, found = pages.read_page(common.at_top("docs", "tutorial.md"))
+    for session in (it for it in sessions if it.needs == ["ld"]):
+        _, said = root.run("set +e\n" + "".join(session.script()))
+        found += session.compare(said)
+    tries.check(f"{name}: the tutorial's first table is what the tutorial shows", not found, "\n".join(found))
 
 
 def try_add(tries, root, name):
-    """The table of the example's program, added to a copy of it."""
-    status, said = root.run("cp echo added; kiblawen-add added | head -n 1; ./added runs | tail -n 1; strip added 2>warnings; kiblawen-add added")
+    """The table of a program, added to it."""
+    staging.write(f"{root.room}/prints.c", PRINTS)
+    status, said = root.run(
+        "cc -o prints prints.c; kiblawen-add prints | head -n 1; ./prints runs; strip prints 2>warnings; kiblawen-add prints"
+    )
     passed = status == 0 and said == "1 file: 1 added\nruns\n1 file: 1 had one\n"
     tries.check(f"{name}: kiblawen-add adds a table, which strip keeps, to a program that still runs", passed, f"status {status}\n{said}")
 
@@ -211,40 +204,40 @@ def try_tool(tries, root, path, room):
     root.copy(path)
     tries.check("kiblawen: no toolchain is there", not root.has_toolchain())
     tries.check(f"kiblawen: {name} is installed, and its files are whole", *root.ends_well(f"dpkg -i {name} && dpkg --verify kiblawen"))
-    try_example(tries, root, "kiblawen")
+    try_tutorial(tries, root, "kiblawen")
     try_add(tries, root, "kiblawen")
     try_process(tries, root, "kiblawen", room)
     removed = "dpkg -P kiblawen && [ -z \"$(find /usr /etc -name '*kiblawen*' -o -name 'sf_tool*')\" ]"
     tries.check("kiblawen: nothing is left after it is removed", *root.ends_well(removed))
 
 
-def try_library(tries, root, paths, tables):
+def try_library(tries, root, paths, room):
+    """The walker of docs/library.md, on the tutorial's program that was made in another root."""
     names = " ".join(os.path.basename(path) for path in paths)
-    root.copy(*paths, *filter(os.path.exists, (f"{tables}/echo.sframe", f"{tables}/at")))
+    root.copy(*paths, *filter(os.path.exists, [f"{room}/count"]))
     tries.check("libkiblawen-dev: no toolchain is there", not root.has_toolchain())
-    installs = f"dpkg -i {names} && dpkg --verify libkiblawen0 libkiblawen-dev"
+    installs = f"dpkg -i {names} && dpkg --verify libkiblawen0 libkiblawen-link0 libkiblawen-dev"
     tries.check(f"libkiblawen-dev: {names} are installed, and their files are whole", *root.ends_well(installs))
-    staging.write(f"{root.room}/walks.c", "\n".join(block("docs/library.md", "### A program", "c")) + WALKS)
-    build = "cc -std=c11 -Wall -Wextra -Werror $(pkg-config --cflags kiblawen) walks.c -o walks"
-    walk = "./walks echo.sframe $(cat at) 0x1139 0x4242"
-    is_shared = f"readelf -d walks | grep -c '{shared.LOOK_UP.name}' || true"
+    staging.write(f"{root.room}/walks.c", "\n".join(block("docs/library.md", "## A walker", "c")) + WALKS)
+    build = "cc -std=c11 -Wall -Wextra -Werror $(pkg-config --cflags kiblawen-link) walks.c -o walks"
+    is_shared = f"readelf -d walks | grep -c '{shared.LOOK_UP.name}\\|{shared.LINK.name}' || true"
     for what, script, count in (
-        ("a program with the archive walks a sample", f"{build} -l:libkiblawen.a\n{walk}\n{is_shared}", 0),
-        ("a program built by pkg-config walks a sample", f"{build} $(pkg-config --libs kiblawen)\n{walk}\n{is_shared}", 1),
-        ("that program walks without it, by libkiblawen0", f"dpkg -P libkiblawen-dev >removed\n{walk}\n{is_shared}", 1),
+        ("a program with the archives walks a sample", f"{build} -l:libkiblawen_link.a -l:libkiblawen.a", 0),
+        ("a program built by pkg-config walks a sample", f"{build} $(pkg-config --libs kiblawen-link)", 2),
+        ("that program walks without it, by libkiblawen0 and libkiblawen-link0", "dpkg -P libkiblawen-dev >removed", 2),
     ):
-        status, said = root.run(script)
-        passed = (status, said) == (0, f"0x1139\n0x4242\n{count}\n")
+        status, said = root.run(f"{script}\n./walks count\n{is_shared}")
+        passed = (status, said) == (0, f"{WALKED}{count}\n")
         tries.check(f"libkiblawen-dev: {what}", passed, f"status {status}\n{said}")
 
 
 def try_python(tries, root, path):
-    """The walk of the C program, in the root where libkiblawen0 is left."""
+    """The walk of the C program, in the root where libkiblawen0 and libkiblawen-link0 are left."""
     name = os.path.basename(path)
     root.copy(path)
     tries.check(f"python3-kiblawen: {name} is installed", *root.ends_well(f"dpkg -i {name} && dpkg --verify python3-kiblawen"))
-    status, said = root.run(f"python3 -c '{WALKS_IN_PYTHON}' $(cat at)")
-    passed = (status, said) == (0, "0x1139\n0x4242\n")
+    status, said = root.run(f"python3 -c '{WALKS_IN_PYTHON}'")
+    passed = (status, said) == (0, WALKED)
     tries.check("python3-kiblawen: a walk of the same sample in Python", passed, f"status {status}\n{said}")
 
 
@@ -254,7 +247,7 @@ def try_tarball(tries, root, path):
     tries.check("tarball: no toolchain is there", not root.has_toolchain())
     tries.check(f"tarball: {name} is unpacked", *root.ends_well(f"tar xf {name} && mv {name[: -len('.tar.gz')]} kiblawen"))
     root.environment.update(PATH=f"{TARBALL}/bin:{PATH}", PKG_CONFIG_PATH=f"{TARBALL}/lib/pkgconfig", LD_LIBRARY_PATH=f"{TARBALL}/lib")
-    try_example(tries, root, "tarball")
+    try_tutorial(tries, root, "tarball")
     try_add(tries, root, "tarball")
     walks = "tarball: a program built by pkg-config walks its own stack as backtrace() does"
     if root.ends_well("test -e /proc/self/maps", WITH_PROC)[0]:
@@ -281,7 +274,7 @@ def try_modules(tries, root, paths):
     build = f"tar xf {name} && mv {name[: -len('.tar.gz')]} llvm && CLANG={clang} sh llvm/build.sh"
     tries.check(f"LLVM modules: {clang} builds program and library", *root.ends_well(build))
     root.environment.update(PATH=f"/try/llvm:{PATH}")
-    try_example(tries, root, "LLVM modules")
+    try_tutorial(tries, root, "LLVM modules")
     if root.ends_well(f'grep -F "version $({clang} -dumpversion)," llvm/RELEASE.txt')[0]:
         same = "awk '/^(sf_tool.o|libkiblawen.a) / { print $3 \"  \" $1 }' RELEASE.txt | sha256sum -c"
         tries.check(f"LLVM modules: {clang} makes the bytes that the gate built", *root.ends_well(f"cd llvm\n{same}"))
