@@ -154,7 +154,7 @@ END
     0 | 1) ;;
     125)
         tail -n 3 "$out/said"
-        say "   rt try does not run the program here, so this part is passed over."
+        say "   rt try does not run the program here, so this part is skipped."
         return
         ;;
     *)
@@ -179,7 +179,7 @@ ended() {
     exit 130
 }
 
-say '1. The main job, unproved: the same sources, built with run-time checks, which takes about a minute. The section of a library:'
+say '1. The main job, unproved: the same sources, built with run-time checks in a minute or two, make the section of a library:'
 trap 'ended "Ended. Nothing was proved. ./x try WORDS .. runs any command so; sh demo/run begins again."' INT
 began=$(date +%s)
 if [ -n "$file" ]; then
@@ -189,10 +189,10 @@ else
 fi
 
 say
-say '2. Proof and build. The prover goes through all functions of the program and of the crates that it stands on, and all are compiled.'
-say '   From nothing this took 41 minutes on four idle processors of 2.5 GHz, and 10 GB of disk. Each crate that is proved is kept: Ctrl-C'
-say '   ends here, later runs and the gate begin with what is kept, and ./x try runs any command unproved meanwhile. A line for each crate:'
-trap 'ended "Ended. Each crate that has a line above is kept: sh demo/run goes on from there."' INT
+say '2. Proof and build. All functions of the program and of the crates below it are proved and compiled, which takes 10 GB of disk. The line'
+say '   of each crate estimates the time left. Proved crates are kept: if you end this by Ctrl-C, later runs and the gate continue from there.'
+say '   Meanwhile ./x try runs any command unproved.'
+trap 'ended "Ended. Each crate that has a line above is kept: sh demo/run continues from there."' INT
 ./x build "$out/build.log" || fail "the build failed: see $out/build.log"
 trap - INT
 say "   The program is crates/sf_tool/out/sf_tool. What the prover said is in $out/build.log."
@@ -209,7 +209,7 @@ for size in $sizes; do
     frames=$((frames + size))
 done
 say "   The section has $(($(wc -c <"$out/sframe"))) bytes; the file's .eh_frame and its search table have $frames."
-say '   Is it right? At each address at which it has a row, both recover the same, for all registers and all memory:'
+say '   Is it right? Wherever it has a row, both recover the same, for all registers and all memory:'
 tool verify "$out/sframe@$at" "$file@0x0" || fail 'the section differs from the file'
 
 say
@@ -306,7 +306,7 @@ END
     tool slim "$out/slimmed@0x10000" "$out/merged@0x10000" || fail 'the section was not shortened'
 
     say
-    say '8. A program that aborts some calls deep: the stack in its core file, walked by its section'
+    say '8. A program that aborts some calls deep: the stack in its core file, walked with its section'
     cat >"$out/deep.c" <<'END'
 #include <stdlib.h>
 int sum;
@@ -329,16 +329,16 @@ END
         at=$(page_after "$out/deep")
         tool backtrace "$out/deep.sframe@$at" "$out/core" 64 "$out/deep@0x0" >"$out/walk" || fail 'the core was not walked'
         show_walk
-        say '   The same by the section that is left:'
-        tool walk "$out/deep.sframe@$at" "$out/core" 64 >"$out/again" || fail 'the core was not walked by the section'
+        say '   The same with the section that was written:'
+        tool walk "$out/deep.sframe@$at" "$out/core" 64 >"$out/again" || fail 'the core was not walked with the section'
         cmp "$out/walk" "$out/again" || fail 'the two walks differ'
         walked=1
     else
-        say '   No core file can be had here: this step wants a static C library, and gdb or a kernel that writes the file core.'
+        say '   Skipped, since no core file was made: this step needs a static C library, and gdb or a kernel that writes a file named core.'
     fi
 
     say
-    say '9. A process with three libraries: the stack in its core file, each frame by the table of its own file, which is made on the spot'
+    say '9. A process with three libraries: the stack in its core file, each frame with its own file's table, made on the spot'
     echo 'int two(int n); int one(int n) { return two(n + 1) + 1; }' >"$out/one.c"
     echo 'int three(int n); int two(int n) { return three(n + 1) + 1; }' >"$out/two.c"
     echo 'int three(int n) { if (n > 0) __builtin_trap(); return n; }' >"$out/three.c"
@@ -351,37 +351,37 @@ END
         tool procbacktrace "$out/core" 64 "$out/calls" "$out/libone.so" "$out/libtwo.so" "$out/libthree.so" >"$out/walk" ||
             fail 'the process was not walked'
         show_walk
-        say '   The walk ends in the C library, of which no file was given. The same by sections in copies of the files:'
+        say '   The walk ends in the C library, whose file was not given. The same with sections in copies of the files:'
         for name in calls libone.so libtwo.so libthree.so; do
             add_section "$name"
         done
         tool procwalk "$out/core" 64 "$out/with/calls" "$out/with/libone.so" "$out/with/libtwo.so" "$out/with/libthree.so" >"$out/again" ||
-            fail 'the process was not walked by its sections'
+            fail 'the process was not walked with its sections'
         sed 's/ [^ ]*+0x[0-9a-f]*$//' "$out/walk" | cmp - "$out/again" || fail 'the two walks differ'
         walked=1
     else
-        say '   No core file can be had here: this step wants shared libraries, and gdb or a kernel that writes the file core.'
+        say '   Skipped, since no core file was made: this step needs shared libraries, and gdb or a kernel that writes a file named core.'
     fi
 
     say
-    say '10. The same program with calls that are bound when they are first made: a plain table of such calls is two functions more'
+    say '10. The same program with lazy binding: linkplt has rows for a plain lazy procedure linkage table, as two more functions'
     if (cd "$out" && "$compiler" -O1 -fcf-protection=none -o lazy calls.c libone.so libtwo.so libthree.so -Wl,-z,lazy) 2>/dev/null; then
         at=$(page_after "$out/lazy")
         tool linkplt "$out/lazy.sframe@$at" "$out/lazy@0x0" >"$out/report" || fail 'the program was not linked'
         sed -n -e '/^plt/p' -e '$p' "$out/report"
     else
-        say '   No such program can be made here: this step wants shared libraries, and a compiler for AMD64.'
+        say '   Skipped, since the program was not compiled: this step needs shared libraries, and a compiler for AMD64.'
     fi
 fi
 
 say
-say '11. An object that the program makes itself, to try it on any machine: the same line everywhere'
+say '11. A self-test on a generated object, which prints the same line on each machine'
 tool gen 1000 || fail 'the object was not linked'
 
 say
 say "Checked: every crate of the program is proved. The section of $file was linked and read back, and a row was found."
 [ -z "$compiler" ] || say 'One section of two objects is the merged one of both, byte for byte.'
-[ -z "$walked" ] || say 'Core files were walked, and each frame that gdb lists, where it is there, is the same.'
+[ -z "$walked" ] || say 'Core files were walked, with the same frames as gdb where it is installed.'
 say "Made: in $out, the section (sframe), its report (report) and what it says (dump)."
-say 'Next: ./x build --libraries builds the libraries for C; ./x install PREFIX puts all of it in place; docs/tutorial.md goes on from here;'
+say 'Next: ./x build --libraries builds the libraries for C; ./x install PREFIX puts all of it in place; docs/tutorial.md explains it;'
 say './x bench takes the time beside readelf; ./x gate proves and tests everything; ./x help lists what else there is.'

@@ -1,11 +1,11 @@
 /*
- * Prints its own stack when it crashes: the handler runs on a stack of its own, allocates nothing and prints by write(2).
+ * Prints its own stack when it crashes. The handler runs on an alternate stack, allocates nothing and prints by write(2).
  *
  *   crash STORE [callback|call|overflow]
  *
  * STORE has the tables of the files that it loads (`kiblawen-add --into-store STORE FILE ..`). They are opened at the start,
  * before anything is wrong. Then it crashes: in a function that the C library's qsort() calls, by a call of a null pointer, or
- * by a recursion that doesn't end. Each line has a frame's address, its file, and the place in the file. The signal then ends
+ * by runaway recursion. Each line has a frame's address, its file, and the address in the file. The signal then ends
  * the process, as it would without a handler.
  */
 #define _GNU_SOURCE
@@ -82,7 +82,7 @@ static void print_frame(uint64_t pc)
     print("\n");
 }
 
-/* Copies the stack from the stack pointer on, page by page. Pages at its beginning that can't be read are passed over. */
+/* Copies the stack from the stack pointer on, page by page. Unreadable pages at its beginning are skipped. */
 static void copy_stack(struct kiblawen_sample *sample)
 {
     uint64_t at = sample->sp;
@@ -121,7 +121,7 @@ static struct kiblawen_sample interrupted(const ucontext_t *context)
 
 /*
  * Goes back to the caller if the pc is in no file, as after a call of a null pointer: nothing has been pushed since the call.
- * The caller's pc is then the address before the one that it is returned to.
+ * The caller's pc is then the address before its return address.
  */
 static void return_from_nowhere(struct kiblawen_sample *sample)
 {

@@ -1,9 +1,9 @@
 /*
- * Walks its own stack, from within qsort(), by tables that it makes itself: of each file that it has mapped.
+ * Walks its own stack, from within qsort(), with tables that it makes of each file that it has mapped.
  *
  *     cc -g -o link-self link-self.c -pthread $(pkg-config --cflags --libs kiblawen-link)
  *
- * Prints the frames beside those of _Unwind_Backtrace(). The status is 1 if they differ. For AMD64.
+ * Prints the frames beside the frames of _Unwind_Backtrace(). The status is 1 if they differ. For AMD64.
  */
 #define _GNU_SOURCE
 #include <pthread.h>
@@ -106,7 +106,7 @@ static _Unwind_Reason_Code trace(struct _Unwind_Context *context, void *into)
     return _URC_NO_REASON;
 }
 
-/* Walks from here. Returns whether the frames of callers are those of the other unwinder. */
+/* Walks from here. Returns whether the other unwinder lists the same callers. */
 static __attribute__((noinline)) int walk_from_here(void)
 {
     struct kiblawen_sample sample = {.stack = copy};

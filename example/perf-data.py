@@ -23,7 +23,7 @@ PLAIN = [1 << 16, 1 << 0, 1 << 1, 1 << 2, 1 << 3, 1 << 6, 1 << 9, 1 << 7, 1 << 8
 TIME, CALLCHAIN, REGS_USER, STACK_USER = 1 << 2, 1 << 5, 1 << 12, 1 << 13
 UNKNOWN = 1 << 4 | 1 << 10 | 1 << 11
 MMAP2, SAMPLE = 10, 9
-# perf asks for all registers of AMD64 but ds, es, fs and gs. These are the places of rbp, rsp and rip among them.
+# perf asks for all registers of AMD64 but ds, es, fs and gs. These are the indices of rbp, rsp and rip among them.
 RBP, RSP, RIP = 6, 7, 8
 PROT_EXEC = 4
 
@@ -41,7 +41,7 @@ def records(content):
 
 
 def load_address(path, start, offset):
-    """The load address of a file of which a part from this offset on is mapped at an address, or None."""
+    """The load address of a file that is mapped at an address from this offset on, or None."""
     try:
         with open(path, "rb") as file:
             head = file.read(4096)
@@ -108,7 +108,7 @@ def perf_stacks(path):
 
 
 def is_same(ours, theirs, mapped):
-    """Whether two frames are the same. perf shows an address, or its place in the file, and of a caller also the address before."""
+    """Whether two frames are the same. perf shows an address, or its offset in the file, and for a caller also the address before."""
     places = [ours - start + offset for start, size, offset in mapped if start <= ours - 1 < start + size]
     return any(it in (theirs, theirs + 1) for it in [ours, *places])
 

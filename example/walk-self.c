@@ -1,12 +1,12 @@
 /*
- * Walks its own stack by SFrame sections, and prints each frame beside that of backtrace().
+ * Walks its own stack with SFrame sections, and prints each frame beside the frame that backtrace() lists.
  *
  *   walk-self FOLDER [SAMPLES]
  *
  * FOLDER has a section FILE.sframe for a loaded file of that name, as `sf_tool link FILE.sframe@AT FILE@0x0` makes it,
  * where AT is the page after the file's last loaded byte. With SAMPLES the registers and the copy of the stack are
- * written there, for walks-a-second. The status is 1 if the two disagree, and 2 if the stack's end isn't known: glibc reads
- * it from /proc/self/maps.
+ * written there, for walks-a-second. The status is 1 if the two disagree, and 2 if the stack's end isn't known, which glibc
+ * reads from /proc/self/maps.
  */
 #define _GNU_SOURCE
 #include <execinfo.h>

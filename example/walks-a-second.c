@@ -13,12 +13,12 @@
 
 enum { MOST_MODULES = 64, MOST_FRAMES = 64, WALKS = 200000 };
 
-/* Bytes of the file that are kept for good. */
+/* Returns the file's next bytes, which are never freed. */
 static const uint8_t *take(FILE *file, size_t len)
 {
     uint8_t *bytes = malloc(len + 1);
     if (!bytes || fread(bytes, 1, len, file) != len) {
-        fputs("the file is cut\n", stderr);
+        fputs("the file is truncated\n", stderr);
         exit(2);
     }
     return bytes;

@@ -1,5 +1,5 @@
 /*
- * Counts the words of a text and sorts them, a thousand times over: a program to profile. The profile of it in docs/profile.svg
+ * Counts the words of a text and sorts them, a thousand times over: a program to profile. Its profile in docs/profile.svg
  * has functions that call one another, and the C library's qsort(), which keeps no frame pointers.
  *
  *   words <TEXT
@@ -9,12 +9,12 @@
 #include <stdlib.h>
 #include <string.h>
 
-/* Each function keeps a box of its own. */
+/* Each function has its own box in a flame graph. */
 #define FUNCTION static __attribute__((noinline))
 enum { ROOM = 1 << 16 };
 struct word { char text[24]; int count; } words[ROOM], *list[ROOM];
 
-/* Returns the place of a word, if no other word has it. */
+/* Returns the index at which a word is looked for first. */
 FUNCTION unsigned hash(const char *text)
 {
     unsigned sum = 0;
@@ -23,7 +23,7 @@ FUNCTION unsigned hash(const char *text)
     return sum % ROOM;
 }
 
-/* Returns a word's entry, or that of no word yet. */
+/* Returns a word's entry, or a free one. */
 FUNCTION struct word *find(const char *text)
 {
     unsigned i = hash(text);

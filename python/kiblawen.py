@@ -7,10 +7,10 @@
     section.walk(kiblawen.Sample(pc, sp, fp, stack))                 a Walk: its frames, and why it stopped
     modules = kiblawen.Modules([kiblawen.Module(start, size, section), ..])
     modules.walk(sample)                                             the same with the sections of a process
-    modules.walk_on(sample)                                          the same past unknown frame pointers, with modules and a state to go on from
+    modules.walk_on(sample)                                          the same past unknown frame pointers, with modules and a state to resume from
 
-The library is $KIBLAWEN_LIBRARY, or the one that is installed with this file, or the one that the dynamic linker finds. `link` loads
-another one in the same way, libkiblawen_link.so.0 ($KIBLAWEN_LINK_LIBRARY), when it is first called. kiblawen.h and kiblawen-link.h
+The library is $KIBLAWEN_LIBRARY, or is installed with this file, or is found by the dynamic linker. `link` loads libkiblawen_link.so.0
+($KIBLAWEN_LINK_LIBRARY) in the same way, when it is first called. kiblawen.h and kiblawen-link.h
 describe the calls of the libraries. What these return is proved; this file is tested, and not proved. Several threads may use one section,
 while none closes it.
 """
@@ -123,7 +123,7 @@ Caller = collections.namedtuple("Caller", "cfa ra fp key")
 Frame = collections.namedtuple("Frame", "pc cfa")
 # The frames of a walk, why it stopped, and the value that this names.
 Walk = collections.namedtuple("Walk", "frames stop value")
-# A frame of a walk that goes on, and the Module that has its address, or None. `cfa` is 0 if it isn't known.
+# A frame of `walk_on`, and the Module that has its address, or None. `cfa` is 0 if it isn't known.
 ModuleFrame = collections.namedtuple("ModuleFrame", "pc cfa module")
 # Where a walk is. `fp` is the address where the frame pointer was to be read, if it is unknown. A call returns to `pc` if `returned`.
 State = collections.namedtuple("State", "pc sp fp lr fp_unknown returned", defaults=(0, False, False))

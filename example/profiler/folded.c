@@ -46,8 +46,8 @@ static void append_name(struct process *process, char **line, size_t *len, uint6
 }
 
 /*
- * Walks a sample. Only the innermost function may be at its end, where the frame pointer's place is below the stack pointer and so
- * in no sample. Samples that go on from there are counted.
+ * Walks a sample. Only the innermost function may be at its end, where the saved frame pointer is below the stack pointer and so
+ * in no sample. Walks that continue from there are counted.
  */
 static size_t walk(struct process *process, const struct kiblawen_sample *sample, struct kiblawen_module_frame *frames)
 {
@@ -73,7 +73,7 @@ void add_stack(struct process *process, const struct kiblawen_sample *sample)
     size_t len = 0;
     open_tables(process);
     size_t count = walk(process, sample, frames);
-    /* A return address may be that of the next function, so a caller is named by the address before. */
+    /* A return address may be the start of the next function, so a caller is named by the address before. */
     for (size_t i = count; i > 0; i--)
         append_name(process, &line, &len, frames[i - 1].pc - (i > 1), frames[i - 1].module);
     if (line_count == line_room) {

@@ -8,7 +8,7 @@
  *
  * By default it takes 99 samples a second of each thread that runs, until the process ends or SIGINT comes. A command that still
  * runs when the time is over gets SIGTERM. It makes the tables of the files that the process has mapped by kiblawen_linkplt. With
- * -T, or where perf events aren't allowed, it samples work of its own by a timer. What a command prints goes to standard error.
+ * -T, or where perf events aren't allowed, it samples itself by a timer. A command's output goes to standard error.
  */
 #define _GNU_SOURCE
 #include <errno.h>
@@ -84,6 +84,6 @@ int main(int argc, char **argv)
         print_folded(&process);
         return 0;
     }
-    fputs("profiler: it samples work of its own instead\n", stderr);
+    fputs("profiler: it samples itself instead\n", stderr);
     return sample_by_timer(&process, &options);
 }

@@ -1,4 +1,4 @@
-/* Names of addresses, by a file's symbol table, or else by its dynamic one. */
+/* Names of addresses, from a file's symbol table, or else from its dynamic one. */
 #include <elf.h>
 #include <stdlib.h>
 #include <string.h>

@@ -1,4 +1,4 @@
-"""Runs command lines of the program unproved: the same sources, built with run-time checks, which takes about a minute.
+"""Runs command lines of the program unproved: the same sources, built with run-time checks, in a minute or two.
 
     ./x try WORDS .. [-- WORDS ..]
 
