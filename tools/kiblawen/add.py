@@ -121,15 +121,15 @@ class Summary:
 
     def show(self):
         for line in sorted(self.lines):
-            print(line)
+            common.say(line)
         files, omitted = sum(self.states.values()), sum(self.reasons.values())
         counts = ", ".join(f"{self.states[state]} {words}" for state, words in STATES.items() if self.states[state])
-        print(f"{files} file{'' if files == 1 else 's'}{': ' if counts else ''}{counts}")
+        common.say(f"{files} file{'' if files == 1 else 's'}{': ' if counts else ''}{counts}")
         if self.kept:
             reasons = ", ".join(f"{reason} {count}" for reason, count in self.reasons.most_common())
-            print(f"kept {self.kept} functions, omitted {omitted}{': ' if reasons else ''}{reasons}")
+            common.say(f"kept {self.kept} functions, omitted {omitted}{': ' if reasons else ''}{reasons}")
             more = f"; these have {self.after - self.before} bytes more" if self.after > self.before else ""
-            print(f"{self.size} bytes of tables, {100 * self.size / self.before:.1f} % of the files{more}")
+            common.say(f"{self.size} bytes of tables, {100 * self.size / self.before:.1f} % of the files{more}")
 
     def status(self, lenient):
         if self.states["failed"] or self.states["refused"] and not lenient:
@@ -159,7 +159,7 @@ def from_store(given, files, lost):
     for found in files:
         _, why, table = tried(tables.from_store, given, found)
         if table:
-            print(table)
+            common.say(table)
         else:
             lost.append(f"{found.names[0]}: {why}")
     for line in lost:

@@ -55,6 +55,14 @@ def output(*words, status=(0,)):
     return ran.stdout.decode(errors="replace") if ran.returncode in status else None
 
 
+def say(line):
+    """Prints a line. If the reader of standard output has ended, later lines are printed nowhere."""
+    try:
+        print(line, flush=True)
+    except BrokenPipeError:
+        os.dup2(os.open(os.devnull, os.O_WRONLY), sys.stdout.fileno())
+
+
 def shown(text):
     """A name or a line for people: each byte of a control character or another one that isn't printed is `\\x` and two digits."""
     return "".join(it if it.isprintable() else escaped(it) for it in text)

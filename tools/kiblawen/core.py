@@ -249,9 +249,9 @@ def show(core, modules, names, said):
     for line, address, above in frames(said):
         found = address_in(core, modules, address)
         named = names[found[0]].at(found[1], above) if found and found[0] in names else [("", "")]
-        print(common.shown(line + in_words(*named[0])))
+        common.say(common.shown(line + in_words(*named[0])))
         for function, place in named[1:]:
-            print(common.shown(f"      inlined{in_words(function, place)}"))
+            common.say(common.shown(f"      inlined{in_words(function, place)}"))
 
 
 def walk(core, given):
