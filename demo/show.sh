@@ -338,7 +338,7 @@ END
     fi
 
     say
-    say '9. A process with three libraries: the stack in its core file, each frame with its own file's table, made on the spot'
+    say '9. A process with three libraries: the stack in its core file, each frame with the table of its own file, made on the spot'
     echo 'int two(int n); int one(int n) { return two(n + 1) + 1; }' >"$out/one.c"
     echo 'int three(int n); int two(int n) { return three(n + 1) + 1; }' >"$out/two.c"
     echo 'int three(int n) { if (n > 0) __builtin_trap(); return n; }' >"$out/three.c"
