@@ -217,7 +217,7 @@ struct kiblawen_modules {
 
 /*
  * Writes the indices of modules to `order`, sorted by start, an empty module before another at the same start. Returns
- * whether no two modules overlap: then `order` is an index. An empty module overlaps one that begins before it and ends
+ * whether no two modules overlap: then `order` is an index. An empty module overlaps a module that begins before it and ends
  * after it. If order_count isn't count, returns false. Not proved: it takes n log n comparisons, and recurses 2 log n deep.
  */
 bool kiblawen_index(const struct kiblawen_module *modules, size_t count, size_t *order,
