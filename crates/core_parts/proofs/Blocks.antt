@@ -1,5 +1,5 @@
 -- Parts that were read, and the first with bytes from a place on.
-use Rattle.std.specs.Prelude.{nat_le, nat_lt, ◌&&◌}
+use Rattle.std.specs.Prelude.{nat_le, nat_lt}
 use Rattle.std.specs.List.{find}
 use Rattle.std.specs.Option.{option_map}
 use Rattle.std.proofs.Common.{◌≡◌, ℕ, ◌+◌, ◌-◌, ◌^◌, ◌<◌, ◌≤◌, Bool, true, false, cond, List, [], ◌∷◌, length, take, drop, map, Option, Some, None, refl, sym, ap, ◌∙◌, arith}
@@ -9,10 +9,9 @@ use Rattle.byteorder.specs.Endian.{little_number}
 use Rattle.byteorder.specs.Numbers.{little_from-take}
 use Rattle.sf_model.specs.Memory.{Region, eight_bytes, holds_eight, read_eight}
 use Rattle.elf_read.specs.Number.{field_at}
-use Rattle.sf_bytes.specs.Cursor.{Cursor}
 use Rattle.sf_lookup.specs.declared.span.Span.{Span}
 use Rattle.sf_lookup.specs.Span.{answer_of, covers}
-use Rattle.core_notes.specs.MemoryBytes.{bytes_at, holds_bytes, region_bytes}
+use Rattle.core_notes.specs.MemoryBytes.{bytes_at, region_bytes}
 use Rattle.core_notes.proofs.Holdings.{held}
 use Rattle.core_parts.specs.declared.memory.Block.{Block}
 use Rattle.core_parts.specs.declared.segment.SegmentHead.{SegmentHead}

@@ -75,11 +75,12 @@ held_by_heads file address len (h ∷ hs) e =
         ∙ sym (some_if (holds_bytes address len (region_of (segment_in file h))) (region_of (segment_in file h)) (find (holds_bytes address len) (memory_in file hs)))
     by_kind false later same = later
 
-pub held : (file : List ℕ) (address : ℕ) (hs : List SegmentHead) → heads_lie (length file) hs ≡ true → address + 8 ≤ 2 ^ 64
-    → list_any (head_holds address 8) hs ≡ is_some (read_eight (memory_in file hs) address)
-held file address hs e low =
-    held_by_heads file address 8 hs e
-    ∙ sym (some_mapped (eight_bytes address) (find (holds_eight address) (memory_in file hs))) ∙ ap is_some (sym (read_found (memory_in file hs) address low))
+-- the eight bytes of a value are any eight bytes
+pub eight_held : (memory : List Region) (address : ℕ) → address + 8 ≤ 2 ^ 64 → is_some (bytes_at memory address 8) ≡ is_some (read_eight memory address)
+unfolding bytes_at
+eight_held memory address low =
+    some_mapped (region_bytes address 8) (find (holds_bytes address 8) memory)
+    ∙ sym (some_mapped (eight_bytes address) (find (holds_eight address) memory)) ∙ ap is_some (sym (read_found memory address low))
 
 pub bytes_held : (file : List ℕ) (address len : ℕ) (hs : List SegmentHead) → heads_lie (length file) hs ≡ true
     → list_any (head_holds address len) hs ≡ is_some (bytes_at (memory_in file hs) address len)

@@ -1,26 +1,22 @@
 -- What is read at an address: of the segment that has it, by the first part that has its place.
 use Rattle.std.specs.Prelude.{nat_le, nat_lt, ◌&&◌, ◌||◌, not}
-use Rattle.std.specs.List.{find, flat_map, list_any}
+use Rattle.std.specs.List.{find}
 use Rattle.std.specs.Option.{option_map, option_or}
-use Rattle.std.proofs.Common.{◌≡◌, ℕ, ◌+◌, ◌-◌, ◌^◌, ◌<◌, ◌≤◌, Bool, true, false, cond, List, [], ◌∷◌, ◌++◌, length, take, drop, map, Option, Some, None, refl, sym, ap, ◌∙◌, arith}
+use Rattle.std.proofs.Common.{◌≡◌, ℕ, ◌+◌, ◌-◌, ◌<◌, ◌≤◌, Bool, true, false, cond, List, [], ◌∷◌, ◌++◌, take, drop, map, Option, Some, None, refl, sym, ap, ◌∙◌, arith}
 use Rattle.std.proofs.lemmas.Bool.{leb-true}
 use Rattle.std.proofs.lemmas.List.Folds.{find-append}
-use Rattle.std.proofs.lemmas.List.{length-drop}
-use Rattle.byteorder.specs.Endian.{little_number}
-use Rattle.byteorder.specs.Numbers.{little_from-take}
 use Rattle.sf_bytes.specs.Cursor.{Cursor}
 use Rattle.sf_lookup.specs.declared.span.Span.{Span}
 use Rattle.sf_lookup.specs.Span.{answer_of, covers}
-use Rattle.sf_model.specs.Memory.{Region, eight_bytes, holds_eight, read_eight}
-use Rattle.elf_read.specs.Number.{field_at}
-use Rattle.core_notes.specs.MemoryBytes.{bytes_at, holds_bytes, region_bytes}
+use Rattle.sf_model.specs.Memory.{Region}
+use Rattle.core_notes.specs.MemoryBytes.{holds_bytes, region_bytes}
 use Rattle.core_notes.proofs.Loads.{none_covered}
 use Rattle.core_parts.specs.declared.segment.SegmentHead.{SegmentHead}
 use Rattle.core_parts.specs.Heads.{end_after, head_holds, head_lies, heads_lie, heads_rise, held_span, if_holds, is_memory, rises}
-use Rattle.core_parts.specs.Read.{has_bytes, part_region, place_of, regions_by, regions_of}
+use Rattle.core_parts.specs.Read.{has_bytes, part_region, place_of, regions_by}
 use Rattle.core_parts.proofs.Cuts.{cut_bytes, cut_holds, cut_of, is_inside}
 use Rattle.core_parts.proofs.HeldSpans.{below_end, not_covered, not_low}
-use Rattle.core_parts.proofs.PartReads.{both, long_enough, read_found, too_high}
+use Rattle.core_parts.proofs.PartReads.{both}
 
 -- the segment, with the part that has its bytes at the place
 abbrev pub region_by : (address len : ℕ) → List Cursor → Option SegmentHead → Option Region

@@ -14,7 +14,7 @@ ghost use Rattle.std.proofs.Props.{props};
 
 use crate::core_head::{CoreHead, head_of};
 use crate::memory::PartMemory;
-use crate::segment::{any_holds, heads_hold};
+use crate::segment::any_holds;
 use core_notes::Thread;
 use sf_base::NoMemory;
 use sf_bytes::Part;
@@ -63,7 +63,6 @@ pub fn core_of(alloc: Global, file: FileParts) -> Result<Option<CoreParts>, NoMe
 impl CoreParts {
     ghost use Rattle.std.specs.Prelude.{is_some};
     ghost use Rattle.sf_bytes.specs.Cursor.{cursor};
-    ghost use Rattle.sf_model.specs.Memory.{read_eight};
     ghost use Rattle.core_notes.specs.Memory.{file_regions};
     ghost use Rattle.core_notes.specs.MemoryBytes as held;
     ghost use Rattle.core_parts.specs.PartMemory.{part_regions};
@@ -101,13 +100,6 @@ impl CoreParts {
     {
         let memory = PartMemory::new(alloc, self.file.len, &self.head.heads, &self.file.parts)?;
         Ok(memory)
-    }
-
-    /// Returns whether the whole memory has the eight bytes from an address on, read or not.
-    pub fn holds(&self, address: u64) -> bool
-        ensures { (whole : List ℕ) → IsWholeOf self.now.file whole → result ≡ is_some (read_eight (file_regions whole) address) }
-    {
-        heads_hold(&self.head.heads, address)
     }
 
     /// Returns whether the whole memory has `len` bytes from an address on in one segment, read or not.

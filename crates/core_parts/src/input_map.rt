@@ -9,7 +9,7 @@ ghost use Rattle.core_parts.specs.Partial.{partial_file};
 use crate::input::CoreInput;
 use crate::partial_core::PartialCore;
 use crate::partial_memory::PartialMemory;
-use crate::segment::{SegmentHead, head_holds, is_memory};
+use crate::segment::{SegmentHead, is_memory};
 use crate::unread::Unread;
 use core_notes::MemoryMap;
 use sf_lookup::{Span, Spans};
@@ -57,7 +57,7 @@ fn head_spans(alloc: Global, heads: &[SegmentHead]) -> Result<Vec<Span<bool>>, A
 }
 
 impl<'a> PartialMap<'a> {
-    ghost use Rattle.std.specs.Prelude.{◌≡◌, is_some, IfOk};
+    ghost use Rattle.std.specs.Prelude.{◌≡◌, IfOk};
     ghost use Rattle.std.specs.Option.{option_map};
     ghost use Rattle.core_notes.specs.Memory.{file_regions};
     ghost use Rattle.core_notes.specs.MemoryBytes as held;
@@ -72,19 +72,6 @@ impl<'a> PartialMap<'a> {
         Ok(PartialMap { memory, executable })
     }
 
-    // Returns whether the whole memory has `len` bytes from an address on in one segment, read or not.
-    fn holds_bytes(&self, address: u64, len: u64) -> bool
-        ensures { result ≡ is_some (held.bytes_at (file_regions (partial_file self.now.memory.core.now)) address len) }
-    {
-        if len == 0 {
-            return self.memory.core.holds_bytes(address, len);
-        }
-        match self.memory.memory.segment_at(address) {
-            Some(head) => head_holds(&head, address, len),
-            None => false,
-        }
-    }
-
     // Finds `len` bytes of the whole memory from an address on, by the first segment that holds them all, or says that they
     // weren't read as one part.
     fn bytes_at(&self, address: u64, len: u64) -> Result<Option<&'a [u8]>, Unread>
@@ -93,7 +80,7 @@ impl<'a> PartialMap<'a> {
         if let Some(bytes) = self.memory.memory.bytes_at(address, len) {
             return Ok(Some(bytes));
         }
-        if self.holds_bytes(address, len) {
+        if self.memory.holds_bytes(address, len) {
             return Err(Unread(self.memory.memory.first_unread(address)));
         }
         Ok(None)

@@ -33,7 +33,7 @@ impl<'a> InputMemory<'a> {
             return None;
         };
         match stop {
-            Stop::Unreadable(address) => memory.core.holds(address).then_some(address),
+            Stop::Unreadable(address) => memory.holds(address).then_some(address),
             Stop::Depth | Stop::Outside(_) | Stop::Signed(_) => None,
         }
     }

@@ -2,14 +2,15 @@
 //!
 //! [`load_core`] reads of a core file its file header, its program headers and its notes, if it is clear that these are
 //! enough for every check of the whole file and for its threads, and of its memory blocks of 65,536 bytes: from the
-//! threads' stack pointers on, where mapped files begin, and at addresses that are given; else the whole file.
+//! threads' stack pointers on, where mapped files begin, and at addresses that are given; else the whole file. Each byte is
+//! read once, and blocks that touch in the file are one part.
 //!
 //! [`CoreInput::parse`] makes one core file of both, for whoever walks: its threads, its note on mapped files, its memory.
 //! [`walk_input`] walks a thread by what was read, or says at which address it needs more. [`InputMap`] finds what is at an
 //! address, or says that it was not read.
 //!
 //! [`core_of`] makes the checks by parts that are given. [`PartMemory`] is the memory as far as parts of the file were
-//! read: a [`sf_model::Memory`] that gives none for what wasn't. [`PartialCore::holds`] says whether the whole memory has
+//! read: a [`sf_model::Memory`] that gives none for what wasn't. [`PartialMemory::holds`] says whether the whole memory has
 //! the bytes that a read didn't give.
 //!
 //! Clauses about a [`CoreParts`] are about each list of bytes of which these are parts (`specs/Whole.antt`), those about a
@@ -31,6 +32,7 @@ mod loading;
 mod memory;
 mod partial_core;
 mod partial_memory;
+mod plan;
 mod reading;
 mod segment;
 mod table;

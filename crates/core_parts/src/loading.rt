@@ -13,15 +13,17 @@ ghost use Rattle.core_parts.specs.Whole.{IsWholeOf};
 use crate::core_file::core_of;
 use crate::header::{e_phnum, e_phoff};
 use crate::partial_core::PartialCore;
-use crate::reading::{
-    BLOCK, Window, are_few, file_addresses, read_window, stack_addresses, stack_size,
-};
+use crate::plan::windows_of;
+use crate::reading::read_window;
 use crate::segment::PT_NOTE;
 use crate::table::head_at;
 use elf_read::layout::{FILE_HEADER_LEN, PROGRAM_HEADER_LEN};
 use sf_base::{Files, LoadFault, load_rest};
-use sf_parts::FileParts;
+use sf_parts::{FileParts, Window};
 use std::alloc::Global;
+
+// How many windows of the memory are read, at most: each part is compared with all others when it is added.
+const MAX_WINDOWS: usize = 1 << 13;
 
 /// What is to be read of a core file.
 #[derive(Clone, Copy)]
@@ -108,7 +110,7 @@ fn read_planned<F: Files>(
 
 // Reads the parts of the open file, of this length, that its checks and its threads need, and what the memory has from the
 // threads' stack pointers on, where mapped files begin, and at these addresses: `most` bytes at most. Nothing if it isn't
-// clear that these are enough, if there are many, or if what the memory has at one of the addresses can't be read.
+// clear that these are enough, or if not all of them can be read.
 fn parts_of<F: Files>(
     alloc: Global,
     files: &mut F,
@@ -133,16 +135,11 @@ fn parts_of<F: Files>(
     let Some(mut core) = core_of(alloc, parts)? else {
         return Ok(None);
     };
-    let stacks = stack_addresses(alloc, core.threads())?;
-    let mapped = file_addresses(alloc, core.head.file_note.as_ref())?;
-    let count = stacks.len().saturating_add(mapped.len());
-    if !are_few(core.head.heads.len(), count.saturating_add(addresses.len())) {
+    let windows = windows_of(alloc, &core, left, addresses)?;
+    if windows.len() > MAX_WINDOWS {
         return Ok(None);
     }
-    let stack = stack_size(stacks.len());
-    core.read_blocks(alloc, files, &mut left, &stacks, Some(stack))?;
-    core.read_blocks(alloc, files, &mut left, &mapped, Some(BLOCK))?;
-    if !core.read_blocks(alloc, files, &mut left, addresses, None)? {
+    if !core.read_windows(alloc, files, &mut left, &windows)? {
         return Ok(None);
     }
     Ok(Some(PartialCore::new(files, core)))

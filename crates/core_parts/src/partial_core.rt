@@ -36,7 +36,6 @@ impl PartialCore {
     ghost use Rattle.core_parts.specs.Partial.{partial_file, parts_of_core};
     ghost use Rattle.core_parts.specs.Whole.{IsWholeOf};
     ghost use Rattle.elf_read.specs.Header as header;
-    ghost use Rattle.sf_model.specs.Memory.{read_eight};
     ghost use Rattle.std.specs.Prelude.{◌≤◌, Ok, is_some, map, IfOk, IfSome};
     ghost use Rattle.std.specs.Option.{option_map};
     ghost use Rattle.sf_bytes.specs.Cursor.{cursor};
@@ -102,13 +101,6 @@ impl PartialCore {
     {
         let memory = self.core.memory(alloc)?;
         Ok(PartialMemory { core: self, memory })
-    }
-
-    /// Returns whether the whole memory has the eight bytes from an address on, read or not.
-    pub fn holds(&self, address: u64) -> bool
-        ensures { result ≡ is_some (read_eight (file_regions (partial_file self.now)) address) }
-    {
-        self.core.holds(address)
     }
 
     /// Returns whether the whole memory has `len` bytes from an address on in one segment, read or not.

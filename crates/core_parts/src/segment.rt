@@ -1,8 +1,7 @@
 //! The segments of a core file by their program headers (ELF64 gABI, "Program Header").
 
-ghost use Rattle.std.specs.Prelude.{◌≡◌, ℕ, List, true, length, map, is_some, IfOk};
+ghost use Rattle.std.specs.Prelude.{◌≡◌, map, IfOk};
 ghost use Rattle.std.specs.List.{list_any};
-ghost use Rattle.sf_model.specs.Memory.{read_eight};
 ghost use Rattle.core_parts.specs.Heads as spec;
 
 use sf_lookup::Span;
@@ -124,12 +123,4 @@ pub fn any_holds(heads: &[SegmentHead], address: u64, len: u64) -> bool
     ensures { result ≡ list_any (spec.head_holds address len) heads.now }
 {
     heads.iter().any(|head| head_holds(head, address, len))
-}
-
-/// Returns whether the memory of these segments has the eight bytes from an address on, read or not.
-pub fn heads_hold(heads: &[SegmentHead], address: u64) -> bool
-    ensures { (file : List ℕ) → spec.heads_lie (length file) heads.now ≡ true
-        → result ≡ is_some (read_eight (spec.memory_in file heads.now) address) }
-{
-    address <= u64::MAX - 7 && any_holds(heads, address, 8)
 }

@@ -30,6 +30,21 @@ const FOUND: &str = "
     0xfffffffffffffffc 8 => Ok(None)
 ";
 
+/// The same where the eight bytes at 0x16ffc were missed, of which four are in the first block: both blocks are one part.
+const ACROSS: &str = "
+    0x7000 8 => Ok(Some([16, 112, 0, 0, 0, 0, 0, 0]))
+    0x16ffc 8 => Ok(Some([0, 0, 0, 0, 1, 2, 3, 4]))
+    0x36ff8 8 => Ok(Some([9, 0, 0, 0, 0, 0, 0, 0]))
+";
+
+/// The same where no stack pointer is in the memory, and the last two bytes of the segment were missed.
+const AT_END: &str = "
+    0x36ffe 2 => Ok(Some([0, 0]))
+    0x27000 8 => Ok(Some([0, 0, 0, 0, 0, 0, 0, 0]))
+    0x26fff 8 => Err(Unread(159743))
+    0x36ffe 3 => Ok(None)
+";
+
 /// Loads of a core file what is wanted.
 pub fn load(alloc: Global, files: &mut MemFiles, wanted: Wanted<'_>) -> Result<CoreRead, Fail>
     ensures { IfOk result (λ read. length (core_read_bytes read) < 2 ^ 32) }
@@ -73,14 +88,17 @@ fn three_blocks(alloc: Global) -> Result<Vec<u8>, Fail> {
     Ok(bytes)
 }
 
-#[test]
-fn stacks_are_read_by_blocks(rt: HostRuntime) -> Result<(), Fail> {
-    let alloc = rt.alloc();
-    let mut files = files_of(alloc, three_blocks(alloc)?)?;
-    let read = load_parts(alloc, &mut files, &[])?;
+/// Loads parts of a core file, with those at these addresses, and finds what the lines of a table name.
+fn find_all(
+    alloc: Global,
+    files: &mut MemFiles,
+    addresses: &[u64],
+    table: &str,
+) -> Result<(), Fail> {
+    let read = load_parts(alloc, files, addresses)?;
     let core = CoreInput::parse(&read).ok().ok_or("the file is sound")?;
     let map = InputMap::new(alloc, &core)?;
-    for line in FOUND.lines() {
+    for line in table.lines() {
         if let Some((given, wanted)) = row(line) {
             let (address, len) = given.split_once(" ").ok_or("two numbers")?;
             let found = map.bytes_at(number(address)?, number(len)?);
@@ -88,6 +106,19 @@ fn stacks_are_read_by_blocks(rt: HostRuntime) -> Result<(), Fail> {
         }
     }
     Ok(())
+}
+
+#[test]
+fn stacks_are_read_by_blocks(rt: HostRuntime) -> Result<(), Fail> {
+    let alloc = rt.alloc();
+    let mut bytes = three_blocks(alloc)?;
+    let mut files = files_of(alloc, bytes.clone()?)?;
+    find_all(alloc, &mut files, &[], FOUND)?;
+    find_all(alloc, &mut files, &[0x16ffc], ACROSS)?;
+    // The first thread's stack pointer is 0x6000 as well.
+    put(&mut bytes, "@460 00 60 00")?;
+    let mut files = files_of(alloc, bytes)?;
+    find_all(alloc, &mut files, &[0x36ffe], AT_END)
 }
 
 /// Loads a core file that may have `limit` bytes, of which at most `most` are read, and says how it was read.

@@ -2,11 +2,11 @@ use Rattle.std.proofs.Common.{◌≡◌, ◌+◌, IsTrue}
 use Rattle.std.specs.Option.{IfSome}
 use Rattle.core_parts.specs.Loaded.{parts_count}
 use Rattle.core_parts.specs.Whole.{IsWholeOf}
-use Rattle.core_parts.proofs.core_file.CoreParts.read_blocks.Given as goal
+use Rattle.core_parts.proofs.core_file.CoreParts.read_windows.Given as goal
 
 -- the same file is open, and the parts that were read are of it
-abbrev pub invariant-loop-address : goal.invariant-loop-address
-invariant-loop-address g l =
+abbrev pub invariant-loop-window : goal.invariant-loop-window
+invariant-loop-window g l =
     let files = g.F.Files in
     record {
       whole : IfSome ((files.seen l.fn.files).contents) (λ _. IsWholeOf l.self.file (files.whole l.fn.files));

@@ -1,4 +1,4 @@
-use Rattle.core_parts.proofs.core_file.CoreParts.read_blocks_at.Goals as goal
+use Rattle.core_parts.proofs.core_file.CoreParts.read_more.Goals as goal
 
 -- what was said of each file with the earlier parts is said of each with one more
 pub invariant_of-self : goal.invariant_of-self
