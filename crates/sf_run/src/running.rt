@@ -88,7 +88,7 @@ fn deliver_again<'a, F: Files, O: Sink, E: Sink>(
     }
 }
 
-/// Loads the core file with the parts that were missed, until nothing is missed; in the end all of it.
+/// Loads the core file with the parts that were missed, until nothing is missed, or nothing else; in the end all of it.
 fn deliver_in_rounds<'a, F: Files, O: Sink, E: Sink>(
     alloc: Global,
     command: &Command<'a>,
@@ -113,6 +113,10 @@ fn deliver_in_rounds<'a, F: Files, O: Sink, E: Sink>(
         match deliver_again(alloc, command, named, &mut loaded, wanted, files, out, err) {
             Ok(status) => return status,
             Err(addresses) => {
+                // All of these were wanted now: one more round would miss them again.
+                if missed.ends_with(&addresses) {
+                    break;
+                }
                 if missed.extend_from_slice(&addresses).is_err() {
                     return refuse(&Refusal::Memory, err);
                 }
