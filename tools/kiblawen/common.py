@@ -65,7 +65,7 @@ def say(line):
 
 def shown(text):
     """A name or a line for people: each byte of a control character or another one that isn't printed is `\\x` and two digits."""
-    return "".join(it if it.isprintable() else escaped(it) for it in text)
+    return text if text.isprintable() else "".join(it if it.isprintable() else escaped(it) for it in text)
 
 
 def escaped(character):

@@ -132,18 +132,19 @@ def module_for(core, given, mapping):
 
 def mapped_names(core):
     """The names of the mapped files with code, each with its first mapping: that of its header, where it is there."""
-    code = {it.name for it in core.mappings if core.may_have_code(it)}
-    found = {}
+    code, found = core.names_with_code(), {}
     for it in core.mappings:
-        if it.name in code and (it.name not in found or it.offset == 0 < found[it.name].offset):
-            found[it.name] = it
+        name, offset = it[3], it[2]
+        if name in code and (name not in found or offset == 0 < found[name][2]):
+            found[name] = it
     return found
 
 
 def find_modules(core, given):
     """The modules that are used, by the names in the core file. A line says of each other file with code why it isn't."""
     modules, named = {}, mapped_names(core)
-    for name, mapping in itertools.islice(named.items(), MOST_NAMES):
+    for name, fields in itertools.islice(named.items(), MOST_NAMES):
+        mapping = core_file.Mapping(*fields)
         try:
             if len(modules) == MOST_FILES:
                 raise Unused(f"a run takes {MOST_FILES} files")

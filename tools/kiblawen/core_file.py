@@ -13,33 +13,37 @@ NT_FILE = 0x46494C45
 # segments' headers, of a file's program headers in its memory, and for all build identifiers together.
 MOST_NOTES, MOST_SEGMENTS, MOST_HEADERS, MOST_IDENTIFIERS = 64 << 20, 1 << 18, 1 << 8, 16 << 20
 
-# A mapping of a file: its addresses, the offset in the file, and the file's name.
+# A mapping of a file: its addresses, the offset in the file, and the file's name. Where there may be very many it is a plain tuple.
 Mapping = collections.namedtuple("Mapping", "start end offset name")
+# The lengths of a note's name and descriptor, and its type.
+NOTE = struct.Struct("<III")
 
 
 class NotCore(Exception):
     """Why a file can't be used as a core file."""
 
 
-def records(content):
-    """The notes in these bytes: name, type and descriptor."""
-    at = 0
-    while at + 12 <= len(content):
-        name_len, length, kind = struct.unpack_from("<III", content, at)
+def first_note(content, wanted, owner):
+    """The descriptor of the first note of a type whose name begins so, or None."""
+    at, last, fields = 0, len(content) - NOTE.size, NOTE.unpack_from
+    while at <= last:
+        name_len, length, kind = fields(content, at)
         descriptor = at + 12 + (name_len + 3 & -4)
-        yield content[at + 12 : at + 12 + min(name_len, 16)], kind, descriptor, length
+        if kind == wanted and len(owner) <= name_len and content.startswith(owner, at + 12):
+            return content[descriptor : descriptor + length]
         at = descriptor + (length + 3 & -4)
+    return None
 
 
 def mappings_in(note):
-    """The mappings that the bytes of a note on mapped files have."""
+    """The mappings that the bytes of a note on mapped files have, as tuples, in order."""
     if len(note) < 16:
         return []
     count, page = struct.unpack_from("<QQ", note)
     count = min(count, (len(note) - 16) // 24)
     names = note[16 + 24 * count :].split(b"\0", count)
-    fields = struct.iter_unpack("<QQQ", note[16 : 16 + 24 * count])
-    return [Mapping(start, end, offset * page, name) for (start, end, offset), name in zip(fields, names)]
+    fields = struct.unpack_from(f"<{3 * count}Q", note, 16)
+    return sorted(zip(fields[::3], fields[1::3], [it * page for it in fields[2::3]], names))
 
 
 def merged(ranges):
@@ -67,9 +71,8 @@ class Core:
         self.loads = sorted((it for it in headers if it.kind == elf.PT_LOAD), key=lambda it: it.start)
         self.starts = [it.start for it in self.loads]
         self.code = merged((it.start, it.start + it.size) for it in self.loads if it.flags & PF_X and it.size)
-        self.code_ends = [end for _, end in self.code]
-        self.mappings = sorted(self.mapped(it for it in headers if it.kind == elf.PT_NOTE))
-        self.mapping_starts = [it.start for it in self.mappings]
+        self.mappings = self.mapped(it for it in headers if it.kind == elf.PT_NOTE)
+        self.mapping_starts = [it[0] for it in self.mappings]
 
     def mapped(self, headers):
         """The mappings of the first note on mapped files."""
@@ -77,21 +80,30 @@ class Core:
         for it in headers:
             content = elf.read_at(self.file, it.offset, min(it.length, left))
             left -= len(content)
-            for name, kind, at, length in records(content):
-                if kind == NT_FILE and name.startswith(b"CORE\0"):
-                    return mappings_in(content[at : at + length])
+            note = first_note(content, NT_FILE, b"CORE\0")
+            if note is not None:
+                return mappings_in(note)
         raise NotCore("it has no note on mapped files: `sf_tool backtrace` takes a program and its address")
 
     def mapping_at(self, address):
         """The mapping that has an address, or none."""
         at = bisect.bisect_right(self.mapping_starts, address) - 1
-        return self.mappings[at] if at >= 0 and address < self.mappings[at].end else None
+        return Mapping(*self.mappings[at]) if at >= 0 and address < self.mappings[at][1] else None
 
-    def may_have_code(self, mapping):
-        """Whether a mapping has an address of a segment with code, or has none of any segment: gdb omits those that nothing has changed."""
-        at, place = bisect.bisect_right(self.code_ends, mapping.start), bisect.bisect_right(self.starts, mapping.start) - 1
-        is_code = at < len(self.code) and self.code[at][0] < mapping.end
-        return is_code or place < 0 or self.loads[place].start + self.loads[place].size <= mapping.start
+    def names_with_code(self):
+        """The names of the files that have a mapping with an address of a segment with code, or with none of any segment: gdb omits those that
+        nothing has changed."""
+        names, after = set(), bisect.bisect_right
+        code, code_ends, ends = self.code, [end for _, end in self.code], [it.start + it.size for it in self.loads]
+        for start, end, _, name in self.mappings:
+            at = after(code_ends, start)
+            if at < len(code) and code[at][0] < end:
+                names.add(name)
+                continue
+            place = after(self.starts, start) - 1
+            if place < 0 or ends[place] <= start:
+                names.add(name)
+        return names
 
     def is_elf(self, mapping):
         """Whether the process had the header of an ELF file at a mapping."""
