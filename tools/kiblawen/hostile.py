@@ -120,6 +120,7 @@ INPUTS = {
     "walk_over_falling_segments": USUAL,
     "deep_walk_over_falling_segments": USUAL,
     "walk_over_shared_segments": USUAL,
+    "walk_over_chains": USUAL,
     "notes": USUAL,
     "notes_last": USUAL,
     "segments_of_notes": USUAL,

@@ -483,6 +483,8 @@ def threads(count, pc=0x1005, sp=0x7010):
 
 # A thread's note.
 THREAD = 356
+# Where the frame pointers of `walk_over_chains` begin.
+CHAINS = 1 << 40
 
 
 def stack(pc=0x1005):
@@ -530,7 +532,7 @@ def deep_walk_over_falling_segments(size):
 def walk_over_shared_segments(size):
     """Memory whose segments share their bytes, pieces of which are read, since mapped files begin there. The frame pointers lead through segments that
     the next round reads."""
-    it, count, shared = Core(), min(1024, size // 512), min(60000, size // 64)
+    it, count, shared = Core(), min(4096, size // 512), min(60000, size // 64)
     chain, top = 9, 0x7FFF00000000
     body = bytes(8 * count) + b"".join(struct.pack("<QQ", top + 32 * (at + 1), 0x1006) for at in range(chain))
     first = 0x10000000 + 16 * count
@@ -544,6 +546,19 @@ def walk_over_shared_segments(size):
     for at in range(chain):
         it.segment(PT_LOAD, top + 32 * at, (8 * count + 16 * at, 16))
     # The CFA is the frame pointer and 16, the frame pointer 16 below it.
+    return walk(section([(0x1000, 16, 0, 1)], bytes([0, 4, 16, 0xF0])), it.file())
+
+
+def walk_over_chains(size):
+    """Threads whose frame pointers lead through segments of their own that the file has apart, one in each round; and memory that nothing needs."""
+    it, chain = Core(), 9
+    count = min(4096, size // 2048)
+    it.segment(PT_NOTE, 0, it.body(b"".join(thread(pid, 0x1005, 0, CHAINS + (pid << 20)) for pid in range(1, count + 1))))
+    for pid in range(1, count + 1):
+        for at in range(chain):
+            it.segment(PT_LOAD, CHAINS + (pid << 20) + 32 * at, it.body(struct.pack("<QQ", CHAINS + (pid << 20) + 32 * (at + 1), 0x1006)))
+            it.body(bytes(8))
+    it.segment(PT_LOAD, CHAINS + (1 << 40), it.body(bytes(size // 2)))
     return walk(section([(0x1000, 16, 0, 1)], bytes([0, 4, 16, 0xF0])), it.file())
 
 
@@ -736,11 +751,11 @@ def loads_and_notes_of_a_module(size):
 
 
 def process_with_a_short_identifier(size):
-    """A file with a build identifier of four bytes, which the core file has; and much memory that nothing needs."""
+    """A file with a build identifier of four bytes, which the core file has at the end of a segment; and much memory that nothing needs."""
     place, build, last = 64 + 56 * 3, note(NT_GNU_BUILD_ID, bytes([1, 2, 3, 4]), b"GNU\0"), 1 << 40
     segments = [(kind, 4, place, last, len(build), len(build)) for kind in (PT_LOAD, PT_NOTE)]
     entries = [OWN, (last - place % 4096, last + 4096, b"m", place // 4096)]
-    return process(entries, shared_object(ONE_FUNCTION, 0x100000, segments, build), 1, [(PT_LOAD, last, build + bytes(64)), (PT_LOAD, last << 1, bytes(size))])
+    return process(entries, shared_object(ONE_FUNCTION, 0x100000, segments, build), 1, [(PT_LOAD, last, build), (PT_LOAD, last << 1, bytes(size))])
 
 
 # ---- processes of which the files have call frame information
