@@ -3,7 +3,7 @@ use Rattle.std.proofs.Common.{◌≡◌, ℕ, List, [], ◌∷◌, get_or, Optio
 use Rattle.sf_bytes.specs.Steps.{◌>>=◌}
 use Rattle.sf_model.specs.declared.walk.Frame.{Frame}
 use Rattle.sf_model.specs.declared.walk.Stop.{Stop}
-use Rattle.sf_model.specs.declared.walk.Stop.TheVariants.{Depth, Outside}
+use Rattle.sf_model.specs.declared.walk.Stop.TheVariants.{Depth}
 use Rattle.sf_model.specs.Memory.{Region}
 use Rattle.sf_model.specs.Recovery.{Recovery, Value, Known}
 use Rattle.sf_model.specs.Walk.{Going, Listing, Recovering, behind, frame_by, on_by, on_by_address, on_by_pointer, unsigned_address}
@@ -11,11 +11,11 @@ use Rattle.core_walk.specs.declared.step.Caller.{Caller}
 use Rattle.core_walk.specs.Step.{Steps, on_with}
 use Rattle.signal_frames.specs.declared.frame.SignalFrame.{SignalFrame}
 use Rattle.process_walk.specs.declared.stepping.State.{State}
-use Rattle.process_walk.specs.Outside.{is_outside}
+use Rattle.process_walk.specs.Outside.{RowStep, is_outside, row_step}
 use Rattle.process_walk.specs.Step.{Stepped, caller_by, known_or_stop, step_by, step_without_row, to_caller, unsigned_or_stop}
 
 -- ---- a walk goes on with the caller
-abbrev caller : (sp fp ra pc : ℕ) → Caller
+abbrev pub caller : (sp fp ra pc : ℕ) → Caller
 caller sp fp ra pc = record { pc = pc; regs = record { sp = sp; fp = fp; lr = ra } }
 
 by_address : (go : Going) (sp fp ra : ℕ) (o : Option ℕ) → on_by_address go sp fp ra o ≡ on_with go (unsigned_or_stop ra o >>= λ pc. Ok (caller sp fp ra pc))
@@ -64,13 +64,6 @@ same_next (Err stop) (Ok other) e = let no = ap (λ (l : Listing). l.frames) e i
 same_next (Err one) (Err other) e = ap (λ (s : Stop). Err s) (ap (λ (l : Listing). l.stop) e)
 
 -- ---- a step by a row, or that there is none
-abbrev RowStep : Type 0
-RowStep = Frame × Result Caller Stop
-
-abbrev row_step : Option Recovery → (mask : Option ℕ) → (asked pc : ℕ) → RowStep
-row_step (Some r) mask asked pc = (record { pc = pc; cfa = Some r.frame_address }, caller_by mask r)
-row_step None mask asked pc = (record { pc = pc; cfa = None }, Err (Outside asked))
-
 goes : (go : Going) (o : Option Recovery) (mask : Option ℕ) (asked pc : ℕ) → frame_by go mask asked pc o ≡ behind (row_step o mask asked pc).0 (on_with go (row_step o mask asked pc).1)
 goes go (Some r) mask asked pc = ap (behind (record { pc = pc; cfa = Some r.frame_address })) (on_caller go mask r)
 goes go None mask asked pc = refl
@@ -89,7 +82,7 @@ same_step frame next x e =
     let nexts : next ≡ x.1 = same_next next x.1 (ap later e) in
     ap (λ (f : Frame). let s : RowStep = (f, next) in s) frames ∙ ap (λ (n : Result Caller Stop). let s : RowStep = (x.0, n) in s) nexts
 
-row_step_is : (recovering : Recovering) (mask : Option ℕ) (asked : ℕ) (at : Caller) (frame : Frame) (next : Result Caller Stop) → Steps recovering mask asked at frame next
+pub row_step_is : (recovering : Recovering) (mask : Option ℕ) (asked : ℕ) (at : Caller) (frame : Frame) (next : Result Caller Stop) → Steps recovering mask asked at frame next
     → (frame, next) ≡ row_step (recovering asked at.regs) mask asked at.pc
 row_step_is recovering mask asked at frame next h =
     let o = recovering asked at.regs in
@@ -110,31 +103,29 @@ within mask r =
     (λ ra. value_within r.frame_pointer (λ fp. unsigned_or_stop ra (unsigned_address r.signed mask ra) >>= λ pc. Ok (caller r.stack_pointer fp ra pc))
     (λ fp. address_within ra (unsigned_address r.signed mask ra) (caller r.stack_pointer fp ra)))
 
-by_recovered : (o : Option Recovery) (signal : Option SignalFrame) (mask : Option ℕ) (memory : List Region) (state : State) (frame : Frame) (next : Result Caller Stop) → is_outside next ≡ false
-    → (frame, next) ≡ row_step o mask state.asked state.at.pc → (record { frame = frame; is_signal = false }, to_caller next) ≡ step_by o signal mask memory state
-by_recovered (Some r) signal mask memory state frame next is e =
+by_recovered : (o : Option Recovery) (signal : Option SignalFrame) (mask : Option ℕ) (memory : List Region) (state : State) (row : RowStep) → is_outside row.1 ≡ false
+    → row ≡ row_step o mask state.asked state.at.pc → (record { frame = row.0; is_signal = false }, to_caller row.1) ≡ step_by o signal mask memory state
+by_recovered (Some r) signal mask memory state row is e =
     ap (λ (x : RowStep). let s : Stepped = (record { frame = x.0; is_signal = false }, to_caller x.1) in s) e
-by_recovered None signal mask memory state frame next is e =
-    let outside : is_outside next ≡ true = ap (λ (x : RowStep). is_outside x.1) e in absurd (let no : false ≡ true = sym is ∙ outside in cc)
+by_recovered None signal mask memory state row is e =
+    let outside : is_outside row.1 ≡ true = ap (λ (x : RowStep). is_outside x.1) e in absurd (let no : false ≡ true = sym is ∙ outside in cc)
 
-by_signal : (o : Option Recovery) (signal : Option SignalFrame) (mask : Option ℕ) (memory : List Region) (state : State) (frame : Frame) (next : Result Caller Stop) → is_outside next ≡ true
-    → (frame, next) ≡ row_step o mask state.asked state.at.pc → step_without_row signal memory state ≡ step_by o signal mask memory state
-by_signal (Some r) signal mask memory state frame next is e =
-    let inside : is_outside next ≡ false = ap (λ (x : RowStep). is_outside x.1) e ∙ within mask r in absurd (let no : false ≡ true = sym inside ∙ is in cc)
-by_signal None signal mask memory state frame next is e = refl
+by_signal : (o : Option Recovery) (signal : Option SignalFrame) (mask : Option ℕ) (memory : List Region) (state : State) (row : RowStep) → is_outside row.1 ≡ true
+    → row ≡ row_step o mask state.asked state.at.pc → step_without_row signal memory state ≡ step_by o signal mask memory state
+by_signal (Some r) signal mask memory state row is e =
+    let inside : is_outside row.1 ≡ false = ap (λ (x : RowStep). is_outside x.1) e ∙ within mask r in absurd (let no : false ≡ true = sym inside ∙ is in cc)
+by_signal None signal mask memory state row is e = refl
 
 -- the step by a row
-pub with_row : (recovering : Recovering) (signal : Option SignalFrame) (mask : Option ℕ) (memory : List Region) (state : State) (frame : Frame) (next : Result Caller Stop) (onward : Result State Stop)
-    → Steps recovering mask state.asked state.at frame next → false ≡ is_outside next → onward ≡ to_caller next
-    → (record { frame = frame; is_signal = false }, onward) ≡ step_by (recovering state.asked state.at.regs) signal mask memory state
-with_row recovering signal mask memory state frame next onward h is e =
-    ap (λ (n : Result State Stop). let s : Stepped = (record { frame = frame; is_signal = false }, n) in s) e
-    ∙ by_recovered (recovering state.asked state.at.regs) signal mask memory state frame next (sym is) (row_step_is recovering mask state.asked state.at frame next h)
+pub with_row : (o : Option Recovery) (signal : Option SignalFrame) (mask : Option ℕ) (memory : List Region) (state : State) (row : RowStep) (onward : Result State Stop)
+    → row ≡ row_step o mask state.asked state.at.pc → false ≡ is_outside row.1 → onward ≡ to_caller row.1 → (record { frame = row.0; is_signal = false }, onward) ≡ step_by o signal mask memory state
+with_row o signal mask memory state row onward h is e =
+    ap (λ (n : Result State Stop). let s : Stepped = (record { frame = row.0; is_signal = false }, n) in s) e
+    ∙ by_recovered o signal mask memory state row (sym is) h
 
 -- the step without one
-pub without_row : (recovering : Recovering) (signal found : Option SignalFrame) (mask : Option ℕ) (memory : List Region) (state : State) (frame : Frame) (next : Result Caller Stop) (x : Stepped)
-    → Steps recovering mask state.asked state.at frame next → true ≡ is_outside next → found ≡ signal → x ≡ step_without_row found memory state
-    → x ≡ step_by (recovering state.asked state.at.regs) signal mask memory state
-without_row recovering signal found mask memory state frame next x h is same e =
+pub without_row : (o : Option Recovery) (signal found : Option SignalFrame) (mask : Option ℕ) (memory : List Region) (state : State) (row : RowStep) (x : Stepped)
+    → row ≡ row_step o mask state.asked state.at.pc → true ≡ is_outside row.1 → found ≡ signal → x ≡ step_without_row found memory state → x ≡ step_by o signal mask memory state
+without_row o signal found mask memory state row x h is same e =
     e ∙ ap (λ (s : Option SignalFrame). step_without_row s memory state) same
-    ∙ by_signal (recovering state.asked state.at.regs) signal mask memory state frame next (sym is) (row_step_is recovering mask state.asked state.at frame next h)
+    ∙ by_signal o signal mask memory state row (sym is) h

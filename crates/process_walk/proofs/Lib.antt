@@ -1,6 +1,8 @@
 pub mod Addresses
 pub mod Located
 pub mod Callers
+pub mod Unmasked
+pub mod Onward
 pub mod Frames
 pub mod Rows
 pub mod Same

@@ -1,19 +1,21 @@
 -- A walk through modules by a part of a memory.
 use Rattle.std.specs.Option.{option_map}
-use Rattle.std.proofs.Common.{◌≡◌, ℕ, zero, suc, List, Option, Some, None, Result, Ok, Err, false, refl, sym, ap, ◌∙◌}
+use Rattle.std.proofs.Common.{◌≡◌, ℕ, zero, suc, Bool, List, Option, Some, None, Result, Ok, Err, true, false, refl, sym, ap, subst, ◌∙◌}
 use Rattle.sf_bytes.specs.Steps.{◌>>=◌}
+use Rattle.sample_walk.specs.Signature.{in_address_space}
 use Rattle.sf_model.specs.declared.content.Content.{Content}
 use Rattle.sf_model.specs.declared.machine.Key.{Key}
 use Rattle.sf_model.specs.declared.recovery.Regs.{Regs}
 use Rattle.sf_model.specs.declared.walk.Stop.{Stop}
 use Rattle.sf_model.specs.Lookup.{FoundRow}
 use Rattle.sf_model.specs.Memory.{Region, read_eight}
-use Rattle.sf_model.specs.Recovery.{Recovery, frame_address_of, key_if_signed, moved, pointer_place, recovery, return_place, saved_at, saved_or_kept, saved_value}
+use Rattle.sf_model.specs.Recovery.{Recovery, Value, Known, frame_address_of, key_if_signed, moved, pointer_place, recovery, return_place, saved_at, saved_or_kept, saved_value}
 use Rattle.sf_model.specs.Walk.{LookUp, ThreadState, recover_by, unsigned_address}
 use Rattle.core_walk.specs.declared.step.Caller.{Caller}
 use Rattle.core_walk.specs.PartWalk.{IsPartOf, MissedNothing}
 use Rattle.signal_frames.specs.declared.frame.SignalFrame.{SignalFrame}
 use Rattle.process_walk.specs.declared.stepping.State.{State}
+use Rattle.process_walk.specs.Masks.{key_above_space, key_of_value, recover_unmasked, recovered_unmasked, unsigned_in_space}
 use Rattle.process_walk.specs.Step.{Stepped, called, caller_by, frame_listed, interrupted, known_or_stop, resumed, step_at, step_by, step_from, step_without_row, stepped_over, to_caller, unsigned_or_stop}
 use Rattle.process_walk.specs.Walk.{ProcessListing, behind, frames_by, listed, on_from, process_walk, start_of}
 
@@ -49,34 +51,78 @@ abbrev StepAgrees : (whole : List Region) → (one other : Stepped) → Type 0
 StepAgrees whole one other = Sound whole one.1 → one ≡ other
 
 -- the step by a row: the return address is read first, then the frame pointer
-abbrev caller : (content : Content) → (key : Key) → (mask : Option ℕ) → (cfa ra fp : ℕ) → Result Caller Stop
-caller content key mask cfa ra fp =
-    unsigned_or_stop ra (unsigned_address (key_if_signed content.signed key) mask ra) >>= λ pc. Ok (record { pc = pc; regs = record { sp = cfa; fp = fp; lr = ra } })
+-- the key that signed a return address, by the address
+abbrev Keys : Type 0
+Keys = ℕ → Option Key
 
-caller_agrees : (part whole : List Region) → IsPartOf part whole → (mask : Option ℕ) (content : Content) (key : Key) (regs : Regs)
-    → Agree whole (caller_by mask (recovery content key regs part)) (caller_by mask (recovery content key regs whole))
-unfolding recovery
-caller_agrees part whole is mask content key regs =
+abbrev caller : Keys → (mask : Option ℕ) → (cfa ra fp : ℕ) → Result Caller Stop
+caller keys mask cfa ra fp = unsigned_or_stop ra (unsigned_address (keys ra) mask ra) >>= λ pc. Ok (record { pc = pc; regs = record { sp = cfa; fp = fp; lr = ra } })
+
+abbrev caller_from : Keys → (mask : Option ℕ) → (cfa : ℕ) → (ra fp : Value) → Result Caller Stop
+caller_from keys mask cfa ra fp = known_or_stop ra >>= λ x. (known_or_stop fp >>= caller keys mask cfa x)
+
+caller_agrees : (part whole : List Region) → IsPartOf part whole → (keys : Keys) (mask : Option ℕ) (content : Content) (regs : Regs)
+    → let cfa = frame_address_of content regs in let ra = return_place content.ra cfa in let fp = pointer_place content.fp cfa in
+    Agree whole (caller_from keys mask cfa (saved_or_kept part regs.lr ra) (saved_or_kept part regs.fp fp)) (caller_from keys mask cfa (saved_or_kept whole regs.lr ra) (saved_or_kept whole regs.fp fp))
+caller_agrees part whole is keys mask content regs =
     let cfa = frame_address_of content regs in
     let ra = return_place content.ra cfa in
     let fp = pointer_place content.fp cfa in
     then_agrees whole (known_or_stop (saved_or_kept part regs.lr ra)) (known_or_stop (saved_or_kept whole regs.lr ra))
-    (λ x. known_or_stop (saved_or_kept part regs.fp fp) >>= caller content key mask cfa x) (λ x. known_or_stop (saved_or_kept whole regs.fp fp) >>= caller content key mask cfa x)
+    (λ x. known_or_stop (saved_or_kept part regs.fp fp) >>= caller keys mask cfa x) (λ x. known_or_stop (saved_or_kept whole regs.fp fp) >>= caller keys mask cfa x)
     (kept_agrees part whole is regs.lr ra)
-    (λ x. then_agrees whole (known_or_stop (saved_or_kept part regs.fp fp)) (known_or_stop (saved_or_kept whole regs.fp fp)) (caller content key mask cfa x) (caller content key mask cfa x)
+    (λ x. then_agrees whole (known_or_stop (saved_or_kept part regs.fp fp)) (known_or_stop (saved_or_kept whole regs.fp fp)) (caller keys mask cfa x) (caller keys mask cfa x)
     (kept_agrees part whole is regs.fp fp) (λ y sound. refl))
+
+-- a return address in the address space is unsigned
+abbrev above_space : (signed : Option Key) → Keys
+above_space signed address = key_above_space (in_address_space address) signed
+
+in_space : (signed : Option Key) (mask : Option ℕ) (cfa : ℕ) (ra fp : Value) → caller_from (λ x. key_of_value ra signed) mask cfa ra fp ≡ caller_from (above_space signed) mask cfa ra fp
+in_space signed mask cfa (Known x) fp = refl
+in_space signed mask cfa (Value.Unreadable place) fp = refl
+
+agree_as : {A : Type 0} (whole : List Region) (one other x y : Result A Stop) → x ≡ one → y ≡ other → Agree whole one other → Agree whole x y
+agree_as {A} whole one other x y e f same sound = e ∙ same (subst (λ (r : Result A Stop). Sound whole r) e sound) ∙ sym f
+
+space_agrees : (part whole : List Region) → IsPartOf part whole → (mask : Option ℕ) (content : Content) (key : Key) (regs : Regs)
+    → Agree whole (caller_by mask (unsigned_in_space (recovery content key regs part))) (caller_by mask (unsigned_in_space (recovery content key regs whole)))
+unfolding recovery
+space_agrees part whole is mask content key regs =
+    let cfa = frame_address_of content regs in
+    let ra = return_place content.ra cfa in
+    let fp = pointer_place content.fp cfa in
+    let signed = key_if_signed content.signed key in
+    agree_as whole (caller_from (above_space signed) mask cfa (saved_or_kept part regs.lr ra) (saved_or_kept part regs.fp fp))
+    (caller_from (above_space signed) mask cfa (saved_or_kept whole regs.lr ra) (saved_or_kept whole regs.fp fp))
+    (caller_by mask (unsigned_in_space (recovery content key regs part))) (caller_by mask (unsigned_in_space (recovery content key regs whole)))
+    (in_space signed mask cfa (saved_or_kept part regs.lr ra) (saved_or_kept part regs.fp fp)) (in_space signed mask cfa (saved_or_kept whole regs.lr ra) (saved_or_kept whole regs.fp fp))
+    (caller_agrees part whole is (above_space signed) mask content regs)
 
 next_agrees : (whole : List Region) (one other : Result Caller Stop) → Agree whole one other → Agree whole (to_caller one) (to_caller other)
 next_agrees whole one other same = then_agrees whole one other (λ c. Ok (called c)) (λ c. Ok (called c)) same (λ c sound. refl)
 
-row_agrees : (part whole : List Region) → IsPartOf part whole → (signal : Option SignalFrame) (mask : Option ℕ) (state : State) (content : Content) (key : Key)
-    → StepAgrees whole (step_by (Some (recovery content key state.at.regs part)) signal mask part state) (step_by (Some (recovery content key state.at.regs whole)) signal mask whole state)
+listed_agrees : (whole : List Region) (pc cfa : ℕ) (one other : Result Caller Stop) → Agree whole one other
+    → StepAgrees whole (frame_listed pc (Some cfa) false, to_caller one) (frame_listed pc (Some cfa) false, to_caller other)
+listed_agrees whole pc cfa one other same sound =
+    ap (λ (next : Result State Stop). let s : Stepped = (frame_listed pc (Some cfa) false, next) in s) (next_agrees whole one other same sound)
+
+-- by the row that is found, with a return address in the address space as an unsigned one if the test is true
+abbrev row_by : (is_unsigned : Bool) → Recovery → Recovery
+row_by true r = unsigned_in_space r
+row_by false r = r
+
+row_agrees : (part whole : List Region) → IsPartOf part whole → (is_unsigned : Bool) (signal : Option SignalFrame) (mask : Option ℕ) (state : State) (content : Content) (key : Key)
+    → StepAgrees whole (step_by (Some (row_by is_unsigned (recovery content key state.at.regs part))) signal mask part state) (step_by (Some (row_by is_unsigned (recovery content key state.at.regs whole))) signal mask whole state)
 unfolding recovery
-row_agrees part whole is signal mask state content key sound =
+row_agrees part whole is true signal mask state content key sound =
+    let here = unsigned_in_space (recovery content key state.at.regs part) in
+    let there = unsigned_in_space (recovery content key state.at.regs whole) in
+    listed_agrees whole state.at.pc here.frame_address (caller_by mask here) (caller_by mask there) (space_agrees part whole is mask content key state.at.regs) sound
+row_agrees part whole is false signal mask state content key sound =
     let here = recovery content key state.at.regs part in
     let there = recovery content key state.at.regs whole in
-    ap (λ (next : Result State Stop). let s : Stepped = (frame_listed state.at.pc (Some here.frame_address) false, next) in s)
-    (next_agrees whole (caller_by mask here) (caller_by mask there) (caller_agrees part whole is mask content key state.at.regs) sound)
+    listed_agrees whole state.at.pc here.frame_address (caller_by mask here) (caller_by mask there) (caller_agrees part whole is (λ x. key_if_signed content.signed key) mask content state.at.regs) sound
 
 -- the step over a signal frame: the canonical frame address is read first, then the return address, then the frame pointer
 interrupted_agrees : (part whole : List Region) → IsPartOf part whole → (frame : SignalFrame) (regs : Regs) (cfa : ℕ) → Agree whole (interrupted frame part regs cfa) (interrupted frame whole regs cfa)
@@ -104,10 +150,15 @@ signal_agrees part whole is None state sound = refl
 abbrev recover_row : List Region → Regs → FoundRow → Recovery
 recover_row memory regs found = recovery found.row.content found.func.key regs memory
 
-step_agrees : (part whole : List Region) → IsPartOf part whole → (signal : Option SignalFrame) (mask : Option ℕ) (state : State) (o : Option FoundRow)
-    → StepAgrees whole (step_by (option_map (recover_row part state.at.regs) o) signal mask part state) (step_by (option_map (recover_row whole state.at.regs) o) signal mask whole state)
-step_agrees part whole is signal mask state (Some found) sound = row_agrees part whole is signal mask state found.row.content found.func.key sound
-step_agrees part whole is signal mask state None sound = signal_agrees part whole is signal state sound
+step_agrees : (part whole : List Region) → IsPartOf part whole → (is_unmasked : Bool) (signal : Option SignalFrame) (mask : Option ℕ) (state : State) (o : Option FoundRow)
+    → StepAgrees whole (step_by (recovered_unmasked is_unmasked mask (option_map (recover_row part state.at.regs) o)) signal mask part state)
+    (step_by (recovered_unmasked is_unmasked mask (option_map (recover_row whole state.at.regs) o)) signal mask whole state)
+step_agrees part whole is true signal None state (Some found) sound = row_agrees part whole is true signal None state found.row.content found.func.key sound
+step_agrees part whole is true signal (Some mask) state (Some found) sound = row_agrees part whole is false signal (Some mask) state found.row.content found.func.key sound
+step_agrees part whole is false signal mask state (Some found) sound = row_agrees part whole is false signal mask state found.row.content found.func.key sound
+step_agrees part whole is true signal None state None sound = signal_agrees part whole is signal state sound
+step_agrees part whole is true signal (Some mask) state None sound = signal_agrees part whole is signal state sound
+step_agrees part whole is false signal mask state None sound = signal_agrees part whole is signal state sound
 
 -- ---- a walk, by its steps
 -- two ways to go on are the same, unless the first stops at eight bytes that the whole has
@@ -132,10 +183,12 @@ frames_agree whole one other same (suc depth) state ok =
     ∙ ap (listed (frames_by other depth)) (same state (first_sound whole (frames_by one depth) step.1 ok))
 
 -- walks by a part and by the whole
-pub by_a_part : (rows : LookUp) (signal_at : ℕ → Option SignalFrame) (thread : ThreadState) (part whole : List Region) (depth : ℕ) → IsPartOf part whole
-    → MissedNothing whole (process_walk (recover_by rows part) signal_at thread part depth).stop
-    → process_walk (recover_by rows part) signal_at thread part depth ≡ process_walk (recover_by rows whole) signal_at thread whole depth
+pub by_a_part : (rows : LookUp) (signal_at : ℕ → Option SignalFrame) (is_unmasked : Bool) (thread : ThreadState) (part whole : List Region) (depth : ℕ) → IsPartOf part whole
+    → MissedNothing whole (process_walk (recover_unmasked is_unmasked thread.mask (recover_by rows part)) signal_at thread part depth).stop
+    → process_walk (recover_unmasked is_unmasked thread.mask (recover_by rows part)) signal_at thread part depth
+    ≡ process_walk (recover_unmasked is_unmasked thread.mask (recover_by rows whole)) signal_at thread whole depth
 unfolding process_walk
-by_a_part rows signal_at thread part whole depth is ok =
-    frames_agree whole (step_at (recover_by rows part) signal_at thread.mask part) (step_at (recover_by rows whole) signal_at thread.mask whole)
-    (λ state. step_agrees part whole is (signal_at state.asked) thread.mask state (rows state.asked)) depth (start_of thread) ok
+by_a_part rows signal_at is_unmasked thread part whole depth is ok =
+    frames_agree whole (step_at (recover_unmasked is_unmasked thread.mask (recover_by rows part)) signal_at thread.mask part)
+    (step_at (recover_unmasked is_unmasked thread.mask (recover_by rows whole)) signal_at thread.mask whole)
+    (λ state. step_agrees part whole is is_unmasked (signal_at state.asked) thread.mask state (rows state.asked)) depth (start_of thread) ok

@@ -2,4 +2,5 @@ pub mod Signals
 pub mod Process
 pub mod Step
 pub mod Outside
+pub mod Masks
 pub mod Walk

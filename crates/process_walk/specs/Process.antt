@@ -1,5 +1,5 @@
 -- What a process that was put in order shows (Linux core files, NT_FILE).
-use Rattle.std.specs.Prelude.{List, map}
+use Rattle.std.specs.Prelude.{Bool, List, map}
 use Rattle.sf_lookup.specs.declared.span.Span.{Span}
 use Rattle.sf_modules.specs.Entry.{EntryView}
 use Rattle.sf_modules.specs.Module.{ModuleView}
@@ -23,3 +23,7 @@ given_spans s = s.given.now
 -- those of each module, by its number
 abbrev pub signals_in : Process → List (List (Span SignalFrame))
 signals_in p = map given_spans p.signals.items
+
+-- whether no thread of it has a mask
+abbrev pub is_unmasked : Process → Bool
+is_unmasked p = p.is_unmasked

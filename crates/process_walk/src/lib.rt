@@ -10,6 +10,10 @@
 //! the address in the module there. What was interrupted is looked up at its own program counter. Without signal frames a
 //! walk is that of the rows: [`walks_without_signal_frames_are_by_rows`] is a law.
 //!
+//! On AArch64 a signed return address needs the thread's mask. If no thread of the process has one, its processor signs
+//! nothing, and a return address below 2^48 is taken as it is: `recover_unmasked` of `specs/Masks.antt`. Then a walk only goes
+//! on where it would stop ([`walks_without_masks_go_on`]).
+//!
 //! A memory of which only parts were read serves too: a walk by it is the walk by the whole, unless it stopped at bytes
 //! that the whole has ([`a_walk_by_a_part_is_the_walk`]).
 //!
@@ -18,12 +22,16 @@
 #![tactic(auto)]
 
 mod laws;
+mod masks;
 mod process;
 mod signals;
 mod stepping;
 mod walking;
 
-pub use laws::{a_walk_by_a_part_is_the_walk, walks_without_signal_frames_are_by_rows};
+pub use laws::{
+    a_walk_by_a_part_is_the_walk, walks_without_masks_go_on,
+    walks_without_signal_frames_are_by_rows,
+};
 pub use process::Process;
 pub use stepping::ProcessFrame;
 pub use walking::ProcessWalk;
