@@ -9,7 +9,7 @@ use Rattle.core_parts.specs.declared.input_memory.InputMemory.TheVariants.{Whole
 use Rattle.core_parts.specs.Input.{IsEnough, memory_file, regions_in}
 use Rattle.process_walk.specs.declared.process.Process.{Process}
 use Rattle.process_walk.specs.declared.walking.ProcessWalk.{ProcessWalk}
-use Rattle.process_walk.specs.Process.{entries_in, modules_in, signals_in}
+use Rattle.process_walk.specs.Process.{entries_in, is_unmasked, modules_in, signals_in}
 use Rattle.process_walk.specs.Signals.{signal_at}
 use Rattle.process_walk.specs.Walk.{ProcessListing, listing}
 use Rattle.process_walk.proofs.PartWalks.{by_a_part}
@@ -20,6 +20,6 @@ pub is_whole_walk : (process : Process) (thread : ThreadState) (memory : InputMe
     → listing walk ≡ rows_walk process thread (regions_in memory) depth → IsEnough memory walk.stop → listing walk ≡ rows_walk process thread (file_regions (memory_file memory)) depth
 is_whole_walk process thread (Whole memory) walk depth part is enough = is
 is_whole_walk process thread (Parts memory) walk depth part is enough =
-    is ∙ by_a_part (found_in (entries_in process) (modules_in process)) (signal_at (entries_in process) (modules_in process) (signals_in process)) thread
+    is ∙ by_a_part (found_in (entries_in process) (modules_in process)) (signal_at (entries_in process) (modules_in process) (signals_in process)) (is_unmasked process) thread
     (regions_in (Parts memory)) (file_regions (memory_file (Parts memory))) depth part
     (subst (λ (l : ProcessListing). MissedNothing (file_regions (memory_file (Parts memory))) l.stop) is enough)

@@ -1,6 +1,6 @@
 -- The files that a process had mapped, by their call frame information (ELF64 gABI, "Program Header", "Base Address"; Linux core files,
 -- NT_FILE; LSB Core, "The .eh_frame section"; DWARF 5, section 6.4).
-use Rattle.std.specs.Prelude.{◌≡◌, ℕ, bytes_eq, List, Option}
+use Rattle.std.specs.Prelude.{◌≡◌, ℕ, Bool, bytes_eq, List, Option}
 use Rattle.std.specs.List.{find}
 use Rattle.std.specs.Option.{option_and_then}
 use Rattle.sf_model.specs.declared.machine.Arch.{Arch}
@@ -17,6 +17,7 @@ use Rattle.sf_modules.specs.Mapped.{IsMapped, MappedView}
 use Rattle.sf_modules.specs.Process.{ProcessView}
 use Rattle.signal_frames.specs.declared.frame.SignalFrame.{SignalFrame}
 use Rattle.module_tables.specs.Table.{IsModuleTable}
+use Rattle.process_walk.specs.Masks.{recover_unmasked}
 use Rattle.process_walk.specs.Walk.{ProcessListing, process_walk}
 
 -- a file that the process had mapped: the number and the word that are given for it; the name by which the process had it; how far up it was mapped; its
@@ -60,6 +61,8 @@ recover_at entries modules memory asked regs = option_and_then (λ (m : MappedMo
 unfoldable pub signal_at : List EntryView → List MappedModule → (pc : ℕ) → Option SignalFrame
 signal_at entries modules pc = option_and_then (λ (m : MappedModule). answer_of m.signals pc) (module_at entries modules pc)
 
--- the walk of a thread by what DWARF recovers in all files, and over their signal frames
-abbrev pub mapped_walk : List EntryView → List MappedModule → ThreadState → List Region → (depth : ℕ) → ProcessListing
-mapped_walk entries modules thread memory depth = process_walk (recover_at entries modules memory) (signal_at entries modules) thread memory depth
+-- the walk of a thread by what DWARF recovers in all files, and over their signal frames; a return address in the address space is taken as it is
+-- if no thread of the process has a mask
+abbrev pub mapped_walk : List EntryView → List MappedModule → (is_unmasked : Bool) → ThreadState → List Region → (depth : ℕ) → ProcessListing
+mapped_walk entries modules is_unmasked thread memory depth =
+    process_walk (recover_unmasked is_unmasked thread.mask (recover_at entries modules memory)) (signal_at entries modules) thread memory depth

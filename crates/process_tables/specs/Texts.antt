@@ -11,6 +11,7 @@ use Rattle.sf_modules.specs.Name.{last_part}
 use Rattle.sf_text.specs.FileFrames.{FileFrameView, FileView, file_frames_text}
 use Rattle.sf_text.specs.Frames.{numbered_lines}
 use Rattle.process_walk.specs.declared.stepping.ProcessFrame.{ProcessFrame}
+use Rattle.process_walk.specs.Masks.{are_unmasked}
 use Rattle.process_walk.specs.Walk.{ProcessListing}
 use Rattle.process_tables.specs.Modules.{MappedModule, mapped_walk, module_at}
 
@@ -37,4 +38,5 @@ thread_texts entries modules walk_of threads = numbered_lines (thread_text entri
 
 -- the walks of all threads of a core file through these modules, with the file's memory, each of at most `depth` frames
 abbrev pub mapped_walks : List EntryView → List MappedModule → (core : List ℕ) → (depth : ℕ) → List ℕ
-mapped_walks entries modules core depth = thread_texts entries modules (λ thread. mapped_walk entries modules thread (file_regions core) depth) (file_threads core)
+mapped_walks entries modules core depth =
+    thread_texts entries modules (λ thread. mapped_walk entries modules (are_unmasked (file_threads core)) thread (file_regions core) depth) (file_threads core)

@@ -14,7 +14,8 @@ use Rattle.sf_model.specs.Walk.{ThreadState, recover_by}
 use Rattle.sf_modules.specs.Found.{found_in}
 use Rattle.module_tables.specs.Table.{file_at}
 use Rattle.process_walk.specs.declared.process.Process.{Process}
-use Rattle.process_walk.specs.Process.{entries_in, modules_in, signals_in}
+use Rattle.process_walk.specs.Masks.{recover_unmasked}
+use Rattle.process_walk.specs.Process.{entries_in, is_unmasked, modules_in, signals_in}
 use Rattle.process_walk.specs.Signals.{signal_at}
 use Rattle.process_walk.specs.Walk.{ProcessListing, process_walk}
 use Rattle.process_tables.specs.declared.table.MappedTable.{MappedTable}
@@ -53,4 +54,5 @@ IsTableFault p word file (Link fault) = IsUnlinked p word file fault × IsTrue (
 -- the walk of a thread by the rows of the sections that were put in order
 abbrev pub rows_walk : Process → ThreadState → List Region → (depth : ℕ) → ProcessListing
 rows_walk process thread memory depth =
-    process_walk (recover_by (found_in (entries_in process) (modules_in process)) memory) (signal_at (entries_in process) (modules_in process) (signals_in process)) thread memory depth
+    process_walk (recover_unmasked (is_unmasked process) thread.mask (recover_by (found_in (entries_in process) (modules_in process)) memory))
+    (signal_at (entries_in process) (modules_in process) (signals_in process)) thread memory depth

@@ -170,9 +170,9 @@ pub fn walks_text<'m>(
     ensures { (modules : List MappedModule) → AllZip IsTableOf modules tables.now → map module_view sections.now ≡ map section_view modules
         → IfOk result (AreWalks (mapped_walks (map mapping_view entries.now) modules (input_file core.now) depth) (is_by_parts core.now)) }
 {
-    let signals = signals_of(alloc, tables)?;
-    let process = Process::new(alloc, entries, sections, &signals)?;
-    let memory = core.memory(alloc)?;
     let threads = core.threads(alloc)?;
+    let signals = signals_of(alloc, tables)?;
+    let process = Process::new(alloc, entries, sections, &signals, &threads)?;
+    let memory = core.memory(alloc)?;
     texts_of(alloc, &process, tables, &threads, &memory, depth)
 }
