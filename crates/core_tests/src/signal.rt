@@ -2,87 +2,48 @@
 
 ghost use Rattle.std.specs.Prelude.{◌<◌, ◌^◌, length};
 
-use crate::files::{File, TWO_THREADS, bytes_of};
+use crate::files::{File, MASKED, TWO_THREADS, bytes_of};
+use base_tests::tables;
+use base_tests::tables::{expect, number, prints, row};
 use core_notes::{Core, Thread};
-use process_walk::Process;
+use process_walk::{Process, ProcessFrame};
 use sf_bytes::Part;
 use sf_decode::View;
 use sf_lookup::Span;
-use sf_model::{Arch, FdeFacts, Key, Regs, Stop};
+use sf_model::{Arch, FdeFacts, Frame, Key, Regs};
 use sf_modules::{Entry, Module};
-use sframe_tests::samples::PUSHING;
+use sframe_tests::samples::{PUSHING, SIGNING};
 use signal_frames::{SignalFrame, initial_rules, signal_frame};
+use std::alloc::Global;
 use std::test::*;
 
-/// The instructions of the `__restore_rt` of glibc 2.36 on AMD64, as `readelf --debug-dump=frames` shows them: the canonical frame
-/// address is what is saved at rsp+160, the return address is at rsp+168 and the frame pointer at rsp+120.
-const RESTORE_RT: [u8; 105] = *b"\
-    \x0f\x04\x77\xa0\x01\x06\x10\x08\x02\x77\x28\x10\x09\x02\x77\x30\x10\x0a\x02\x77\x38\x10\x0b\x03\
-    \x77\xc0\x00\x10\x0c\x03\x77\xc8\x00\x10\x0d\x03\x77\xd0\x00\x10\x0e\x03\x77\xd8\x00\x10\x0f\x03\
-    \x77\xe0\x00\x10\x05\x03\x77\xe8\x00\x10\x04\x03\x77\xf0\x00\x10\x06\x03\x77\xf8\x00\x10\x03\x03\
-    \x77\x80\x01\x10\x01\x03\x77\x88\x01\x10\x00\x03\x77\x90\x01\x10\x02\x03\x77\x98\x01\x10\x07\x03\
-    \x77\xa0\x01\x10\x10\x03\x77\xa8\x01\
+/// The instructions of a function, and its three constants if it has a signal frame.
+const FUNCTIONS: &str = "
+    # The `__restore_rt` of glibc 2.36 on AMD64, as `readelf --debug-dump=frames` shows it: the canonical frame address is what is saved at
+    # rsp+160, the return address is at rsp+168 and the frame pointer at rsp+120.
+    0f 04 77 a0 01 06 10 08 02 77 28 10 09 02 77 30 10 0a 02 77 38 10 0b 03 77 c0 00 10 0c 03 77 c8 \
+    00 10 0d 03 77 d0 00 10 0e 03 77 d8 00 10 0f 03 77 e0 00 10 05 03 77 e8 00 10 04 03 77 f0 00 10 \
+    06 03 77 f8 00 10 03 03 77 80 01 10 01 03 77 88 01 10 00 03 77 90 01 10 02 03 77 98 01 10 07 03 \
+    77 a0 01 10 10 03 77 a8 01 => Some((160, 168, 120))
+    # A constant of 0, and a negative one.
+    0f 03 77 00 06 10 10 02 77 08 10 06 02 77 78 => Some((0, 8, -8))
+    # The latest rule counts.
+    0f 03 77 00 06 10 10 02 77 08 86 02 10 06 02 77 10 => Some((0, 8, 16))
+    # The frame pointer has a later rule of another kind.
+    0f 03 77 00 06 10 10 02 77 08 10 06 02 77 10 86 02 => None
+    # The frame address is an address, and not what is saved there.
+    0f 02 77 00 10 10 02 77 08 10 06 02 77 10 => None
+    # A constant of the frame pointer.
+    0f 03 77 00 06 10 10 02 76 08 10 06 02 77 10 => None
+    # The return address has no rule.
+    0f 03 77 00 06 10 06 02 77 10 => None
+    # The stack pointer is saved elsewhere.
+    0f 03 77 00 06 10 10 02 77 08 10 06 02 77 10 10 07 02 77 18 => None
+    # Another row.
+    0f 03 77 00 06 10 10 02 77 08 10 06 02 77 10 41 => None
+    # An instruction that is cut off.
+    0f 03 77 00 06 10 10 02 77 08 10 06 02 77 => None
 ";
-
-/// A case: the instructions of a function, and its three constants if it has a signal frame.
-struct Case {
-    shows: &'static str,
-    own: &'static [u8],
-    wanted: Option<(i64, i64, i64)>,
-}
-
-const CASES: [Case; 10] = [
-    Case {
-        shows: "glibc",
-        own: &RESTORE_RT,
-        wanted: Some((160, 168, 120)),
-    },
-    Case {
-        shows: "a constant of 0, and a negative one",
-        own: b"\x0f\x03\x77\x00\x06\x10\x10\x02\x77\x08\x10\x06\x02\x77\x78",
-        wanted: Some((0, 8, -8)),
-    },
-    Case {
-        shows: "the latest rule counts",
-        own: b"\x0f\x03\x77\x00\x06\x10\x10\x02\x77\x08\x86\x02\x10\x06\x02\x77\x10",
-        wanted: Some((0, 8, 16)),
-    },
-    Case {
-        shows: "the frame pointer has a later rule of another kind",
-        own: b"\x0f\x03\x77\x00\x06\x10\x10\x02\x77\x08\x10\x06\x02\x77\x10\x86\x02",
-        wanted: None,
-    },
-    Case {
-        shows: "the frame address is an address, and not what is saved there",
-        own: b"\x0f\x02\x77\x00\x10\x10\x02\x77\x08\x10\x06\x02\x77\x10",
-        wanted: None,
-    },
-    Case {
-        shows: "a constant of the frame pointer",
-        own: b"\x0f\x03\x77\x00\x06\x10\x10\x02\x76\x08\x10\x06\x02\x77\x10",
-        wanted: None,
-    },
-    Case {
-        shows: "the return address has no rule",
-        own: b"\x0f\x03\x77\x00\x06\x10\x06\x02\x77\x10",
-        wanted: None,
-    },
-    Case {
-        shows: "the stack pointer is saved elsewhere",
-        own: b"\x0f\x03\x77\x00\x06\x10\x10\x02\x77\x08\x10\x06\x02\x77\x10\x10\x07\x02\x77\x18",
-        wanted: None,
-    },
-    Case {
-        shows: "another row",
-        own: b"\x0f\x03\x77\x00\x06\x10\x10\x02\x77\x08\x10\x06\x02\x77\x10\x41",
-        wanted: None,
-    },
-    Case {
-        shows: "an instruction that is cut off",
-        own: b"\x0f\x03\x77\x00\x06\x10\x10\x02\x77\x08\x10\x06\x02\x77",
-        wanted: None,
-    },
-];
 
 /// Returns the signal frame of a function with these instructions, after two that do nothing.
 fn frame_of(signal: bool, own: &[u8]) -> Option<SignalFrame>
@@ -114,53 +75,19 @@ fn constants_of(frame: &SignalFrame) -> (i64, i64, i64) {
 
 #[test]
 fn functions_have_signal_frames(rt: HostRuntime) -> Result<(), Fail> {
-    for case in &CASES {
-        assert!(rt; case.own.len() < 200);
-        let found = frame_of(true, case.own);
-        assert_eq!(rt;
-            found.as_ref().map(constants_of),
-            case.wanted,
-            "{}",
-            case.shows
-        );
-        assert!(rt; frame_of(false, case.own).is_none());
+    for line in FUNCTIONS.lines() {
+        if let Some((given, wanted)) = row(line) {
+            let own = tables::bytes_of(rt.alloc(), given)?;
+            if own.len() >= 200 {
+                return Err("too many instructions")?;
+            }
+            let found = frame_of(true, &own);
+            prints(rt.alloc(), given, &found.as_ref().map(constants_of), wanted)?;
+            prints(rt.alloc(), given, &frame_of(false, &own).is_none(), "true")?;
+        }
     }
     Ok(())
 }
-
-/// The bytes of a stack at 0x7000, with the memory's size at 152 of the file; the frames, each with whether it is a signal frame that was
-/// stepped over, and the stop. A thread is in a handler, whose caller is a signal frame at 0x7008. A function was interrupted at its first
-/// byte, 0x1000.
-struct Walked {
-    stack: &'static str,
-    frames: &'static [(u64, Option<u64>, bool)],
-    stop: Stop,
-}
-
-const WALKS: [Walked; 3] = [
-    Walked {
-        stack: "@888 01 50 @1016 f8 70 @1056 e0 70 @1064 00 10 @1112 45 23 @152 00 01",
-        frames: &[
-            (0x1000, Some(0x7008), false),
-            (0x5001, Some(0x70e0), true),
-            (0x1000, Some(0x70e8), false),
-            (0x2345, None, false),
-        ],
-        stop: Stop::Outside(0x2344),
-    },
-    // The memory ends before the interrupted program counter.
-    Walked {
-        stack: "@888 01 50 @1016 f8 70 @1056 e0 70 @1064 00 10 @1112 45 23 @152 b0",
-        frames: &[(0x1000, Some(0x7008), false), (0x5001, Some(0x70e0), false)],
-        stop: Stop::Unreadable(0x70b0),
-    },
-    // It ends before the interrupted stack pointer.
-    Walked {
-        stack: "@888 01 50 @1016 f8 70 @1056 e0 70 @1064 00 10 @1112 45 23 @152 a8",
-        frames: &[(0x1000, Some(0x7008), false), (0x5001, None, false)],
-        stop: Stop::Unreadable(0x70a8),
-    },
-];
 
 /// The entries of a program and of a C library.
 const ENTRIES: [Entry<'static>; 2] = [
@@ -178,21 +105,75 @@ const ENTRIES: [Entry<'static>; 2] = [
     },
 ];
 
-/// Returns a module on AMD64, with a section of functions from 0x1000 on.
-fn module_of(name: &'static [u8]) -> Result<Module<'static, 'static>, Fail> {
+/// Returns a module with a section of functions from 0x1000 on.
+fn module_of(
+    name: &'static [u8],
+    machine: Arch,
+    section: &'static [u8],
+) -> Result<Module<'static, 'static>, Fail> {
     Ok(Module {
         name,
-        machine: Arch::Amd64,
-        view: View::parse(&PUSHING, 0x3000).ok().ok_or("a section")?,
+        machine,
+        view: View::parse(section, 0x3000).ok().ok_or("a section")?,
     })
 }
 
+/// Returns a thread with its stack at 0x7000.
+fn thread_at(pc: u64, mask: Option<u64>) -> Thread {
+    Thread {
+        pid: 100,
+        pc,
+        regs: Regs {
+            sp: 0x7000,
+            fp: 0x7100,
+            lr: 0,
+        },
+        mask,
+    }
+}
+
+/// Appends a frame.
+fn push_frame(alloc: Global, text: &mut String, listed: &ProcessFrame) -> Result<(), Fail> {
+    let Frame { pc, cfa } = listed.frame;
+    let named = match cfa {
+        Some(cfa) => format!(in alloc; "{pc:x} {cfa:x}")?,
+        None => format!(in alloc; "{pc:x}")?,
+    };
+    text.push_str(&named)?;
+    text.push_str(if listed.is_signal { " signal, " } else { ", " })?;
+    Ok(())
+}
+
+/// Returns the frames of a thread's walk by the memory of a core file, and its stop.
+fn walked(
+    alloc: Global,
+    process: &Process<'_>,
+    thread: &Thread,
+    core: &Core<'_>,
+) -> Result<String, Fail> {
+    let walk = process.walk(alloc, thread, core, 64)?;
+    let mut text = String::new(alloc);
+    for listed in &walk.frames {
+        push_frame(alloc, &mut text, listed)?;
+    }
+    text.push_str(&format!(in alloc; "{:?}", walk.stop)?)?;
+    Ok(text)
+}
+
+/// The bytes of a stack at 0x7000, with the memory's size at 152 of the file; the frames, each with its frame address and whether it is a
+/// signal frame that was stepped over, and the stop. A thread is in a handler, whose caller is a signal frame at 0x7008. A function was
+/// interrupted at its first byte, 0x1000.
+const INTERRUPTED: &str = "
+    @888 01 50 @1016 f8 70 @1056 e0 70 @1064 00 10 @1112 45 23 @152 00 01 => 1000 7008, 5001 70e0 signal, 1000 70e8, 2345, Outside(9028)
+    # The memory ends before the interrupted program counter.
+    @888 01 50 @1016 f8 70 @1056 e0 70 @1064 00 10 @1112 45 23 @152 b0 => 1000 7008, 5001 70e0, Unreadable(28848)
+    # It ends before the interrupted stack pointer.
+    @888 01 50 @1016 f8 70 @1056 e0 70 @1064 00 10 @1112 45 23 @152 a8 => 1000 7008, 5001, Unreadable(28840)
+";
+
 #[test]
 fn walks_go_through_signal_frames(rt: HostRuntime) -> Result<(), Fail> {
-    let file = File {
-        len: 1144,
-        text: TWO_THREADS.text,
-    };
+    let alloc = rt.alloc();
     let frame = SignalFrame {
         frame_address: 160,
         return_address: 168,
@@ -203,31 +184,71 @@ fn walks_go_through_signal_frames(rt: HostRuntime) -> Result<(), Fail> {
         size: 10,
         leads_to: frame,
     }];
-    let modules = [module_of(b"/lib/libc.so.6")?, module_of(b"/bin/program")?];
-    let process = Process::new(rt.alloc(), &ENTRIES, &modules, &[&trampoline])?;
-    assert_eq!(rt; process.number_at(0x5000), Some(0));
-    assert_eq!(rt; process.number_at(0x1000), Some(1));
-    let thread = Thread {
-        pid: 100,
-        pc: 0x1000,
-        regs: Regs {
-            sp: 0x7000,
-            fp: 0x7100,
-            lr: 0,
-        },
-        mask: None,
+    let modules = [
+        module_of(b"/lib/libc.so.6", Arch::Amd64, &PUSHING)?,
+        module_of(b"/bin/program", Arch::Amd64, &PUSHING)?,
+    ];
+    let thread = thread_at(0x1000, None);
+    let file = File {
+        len: 1144,
+        ..TWO_THREADS
     };
-    for case in &WALKS {
-        let bytes = bytes_of(rt.alloc(), &file, case.stack)?;
-        let core = Core::parse(&bytes).ok().ok_or("the file is sound")?;
-        let walked = process.walk(rt.alloc(), &thread, &core, 64)?;
-        assert_eq!(rt; walked.stop, case.stop);
-        assert_eq!(rt; walked.frames.len(), case.frames.len());
-        for (listed, wanted) in walked.frames.iter().zip(case.frames) {
-            assert_eq!(rt;
-                (listed.frame.pc, listed.frame.cfa, listed.is_signal),
-                *wanted
-            );
+    let process = Process::new(alloc, &ENTRIES, &modules, &[&trampoline], &[thread])?;
+    prints(alloc, "0x5000", &process.number_at(0x5000), "Some(0)")?;
+    prints(alloc, "0x1000", &process.number_at(0x1000), "Some(1)")?;
+    for line in INTERRUPTED.lines() {
+        if let Some((given, wanted)) = row(line) {
+            let bytes = bytes_of(alloc, &file, given)?;
+            let core = Core::parse(&bytes).ok().ok_or("the file is sound")?;
+            let found = walked(alloc, &process, &thread, &core)?;
+            expect(given, found.as_str(), wanted)?;
+        }
+    }
+    Ok(())
+}
+
+/// The masks of a process's threads on AArch64, or `-`, and what is changed in `MASKED`; the frames of the first thread, and the stop. Its row
+/// has the return address signed, which is saved at 632 of the file.
+const MASKS: &str = "
+    # A bit above the address space.
+    - -: => 1008 7020, Signed(11821949021851668)
+    -: @638 01 => 1008 7020, Signed(281474976714772)
+    # No bit above it.
+    - -: @638 00 => 1008 7020, 1014 7040, Unreadable(28712)
+    -: @632 ff ff ff ff ff ff 00 => 1008 7020, ffffffffffff, Outside(281474976710654)
+    # Another thread has a mask, and the walked one.
+    - 0x7f000000000000: @638 00 => 1008 7020, Signed(4116)
+    0x7f000000000000 -: => 1008 7020, 1014 7040, Unreadable(28712)
+";
+
+/// Returns threads with these masks.
+fn threads_of(alloc: Global, masks: &str) -> Result<Vec<Thread>, Fail> {
+    let mut threads = Vec::new(alloc);
+    for word in masks.split_whitespace() {
+        let mask = if word == "-" {
+            None
+        } else {
+            Some(number(word)?)
+        };
+        threads.push(thread_at(0x1008, mask))?;
+    }
+    Ok(threads)
+}
+
+#[test]
+fn addresses_are_taken_as_they_are_where_no_thread_has_a_mask(rt: HostRuntime) -> Result<(), Fail> {
+    let alloc = rt.alloc();
+    let modules = [module_of(b"/bin/program", Arch::Aarch64, &SIGNING)?];
+    for line in MASKS.lines() {
+        if let Some((given, wanted)) = row(line) {
+            let (masks, edits) = given.split_once(':').ok_or("masks")?;
+            let threads = threads_of(alloc, masks)?;
+            let thread = threads.first().ok_or("a thread")?;
+            let process = Process::new(alloc, &ENTRIES, &modules, &[], &threads)?;
+            let bytes = bytes_of(alloc, &MASKED, edits)?;
+            let core = Core::parse(&bytes).ok().ok_or("the file is sound")?;
+            let found = walked(alloc, &process, thread, &core)?;
+            expect(given, found.as_str(), wanted)?;
         }
     }
     Ok(())

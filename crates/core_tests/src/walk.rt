@@ -5,7 +5,7 @@ ghost use Rattle.core_parts.specs.Loaded.{core_read_bytes};
 
 use crate::files::{File, MASKED, TWO_THREADS, bytes_of};
 use crate::parts::{files_of, load, load_parts};
-use base_tests::tables::expect;
+use base_tests::tables::{expect, row};
 use core_notes::Core;
 use core_parts::{CoreInput, CoreRead, Walked, Wanted, walk_input};
 use core_walk::walk;
@@ -15,34 +15,6 @@ use sf_model::Walk;
 use sframe_tests::samples::{PUSHING, SIGNING};
 use std::alloc::Global;
 use std::test::*;
-
-/// A section, a core file with changed bytes, what a walk of its first thread misses of the parts that are read at first, and the thread's
-/// program counters and frame addresses, and the stop.
-type Case = (
-    &'static [u8],
-    File,
-    &'static str,
-    &'static str,
-    &'static str,
-);
-
-const CASES: [Case; 2] = [
-    (
-        // The stack pointer is below the memory, so none of it is read at first. The return address is before the frame address.
-        &PUSHING,
-        TWO_THREADS,
-        "",
-        "missed 7008, ",
-        "4100 Some(28688), 4101 Some(28704), 0 None, Outside(18446744073709551615)",
-    ),
-    (
-        &SIGNING,
-        MASKED,
-        "@622 7f",
-        "",
-        "4104 Some(28704), 4116 Some(28736), Unreadable(28712)",
-    ),
-];
 
 /// Returns the frames of a walk, and its stop.
 fn text_of(alloc: Global, walk: &Walk) -> Result<String, Fail> {
@@ -54,17 +26,15 @@ fn text_of(alloc: Global, walk: &Walk) -> Result<String, Fail> {
     Ok(text)
 }
 
-#[test]
-fn threads_are_walked(rt: HostRuntime) -> Result<(), Fail> {
-    for (section, file, edits, _, wanted) in &CASES {
-        let bytes = bytes_of(rt.alloc(), file, edits)?;
-        let core = Core::parse(&bytes).ok().ok_or("the file is sound")?;
-        let view = View::parse(section, 0x3000).ok().ok_or("a section")?;
-        let thread = core.threads_iter().next().ok_or("a thread")?;
-        let walked = walk(rt.alloc(), &view, &thread, &core, 64)?;
-        expect(edits, text_of(rt.alloc(), &walked)?.as_str(), wanted)?;
-    }
-    Ok(())
+/// Returns the frames of a walk of a core file's first thread, and its stop.
+fn text_by_core(alloc: Global, section: &[u8], bytes: &[u8]) -> Result<String, Fail>
+    requires { length bytes.now < 2 ^ 32 }
+{
+    let core = Core::parse(bytes).ok().ok_or("the file is sound")?;
+    let view = View::parse(section, 0x3000).ok().ok_or("a section")?;
+    let thread = core.threads_iter().next().ok_or("a thread")?;
+    let walked = walk(alloc, &view, &thread, &core, 64)?;
+    text_of(alloc, &walked)
 }
 
 /// Walks the first thread of a core file by what was read of it.
@@ -79,20 +49,20 @@ fn walked(alloc: Global, section: &[u8], read: &CoreRead) -> Result<Walked, Fail
     Ok(walk_input(alloc, &view, thread, &memory, 64)?)
 }
 
-/// Loads parts of a core file, and again with the addresses that a walk of its first thread misses, until they are enough.
-/// Returns the frames of the walk and its stop, after the addresses.
+/// Loads parts of a core file, and again with the addresses that a walk of its first thread misses, until they are enough. Returns the
+/// frames of the walk and its stop, after the addresses.
 fn text_by_parts(alloc: Global, section: &[u8], files: &mut MemFiles) -> Result<String, Fail> {
     let mut addresses = Vec::new(alloc);
-    let mut missed = String::new(alloc);
+    let mut text = String::new(alloc);
     for _ in 0..4 {
         let read = load_parts(alloc, files, &addresses)?;
         match walked(alloc, section, &read)? {
             Walked::Whole(walk) => {
-                missed.push_str(&text_of(alloc, &walk)?)?;
-                return Ok(missed);
+                text.push_str(&format!(in alloc; ": {}", text_of(alloc, &walk)?)?)?;
+                return Ok(text);
             }
             Walked::Missed(address) => {
-                missed.push_str(&format!(in alloc; "missed {address:x}, ")?)?;
+                text.push_str(&format!(in alloc; "{address:x}")?)?;
                 addresses.push(address)?;
             }
         }
@@ -109,16 +79,39 @@ fn text_by_whole(alloc: Global, section: &[u8], files: &mut MemFiles) -> Result<
     }
 }
 
-#[test]
-fn threads_are_walked_by_parts(rt: HostRuntime) -> Result<(), Fail> {
-    let alloc = rt.alloc();
-    for (section, file, edits, missed, wanted) in &CASES {
-        let mut files = files_of(alloc, bytes_of(alloc, file, edits)?)?;
-        let whole = text_by_whole(alloc, section, &mut files)?;
-        expect(edits, whole.as_str(), wanted)?;
-        let parts = text_by_parts(alloc, section, &mut files)?;
-        let all = format!(in alloc; "{missed}{wanted}")?;
-        expect(edits, parts.as_str(), all.as_str())?;
+/// Fails unless a walk of a core file's first thread is what the table wants where the bytes of each row are written into the file: the address
+/// that it misses of the parts that are read at first, if there is one, and its program counters, frame addresses and stop.
+fn expect_walks(alloc: Global, section: &[u8], file: &File, table: &str) -> Result<(), Fail> {
+    for line in table.lines() {
+        if let Some((given, wanted)) = row(line) {
+            let (_, frames) = wanted.split_once(": ").ok_or("frames")?;
+            let bytes = bytes_of(alloc, file, given)?;
+            expect(
+                given,
+                text_by_core(alloc, section, &bytes)?.as_str(),
+                frames,
+            )?;
+            let mut files = files_of(alloc, bytes)?;
+            let whole = text_by_whole(alloc, section, &mut files)?;
+            expect(given, whole.as_str(), frames)?;
+            let parts = text_by_parts(alloc, section, &mut files)?;
+            expect(given, parts.as_str(), wanted)?;
+        }
     }
     Ok(())
+}
+
+const PUSHED: &str = "
+    # The stack pointer is below the memory, so none of it is read at first. The return address is before the frame address.
+    => 7008: 4100 Some(28688), 4101 Some(28704), 0 None, Outside(18446744073709551615)
+";
+
+const SIGNED: &str = "
+    @622 7f => : 4104 Some(28704), 4116 Some(28736), Unreadable(28712)
+";
+
+#[test]
+fn threads_are_walked_by_whole_files_and_by_parts(rt: HostRuntime) -> Result<(), Fail> {
+    expect_walks(rt.alloc(), &PUSHING, &TWO_THREADS, PUSHED)?;
+    expect_walks(rt.alloc(), &SIGNING, &MASKED, SIGNED)
 }
