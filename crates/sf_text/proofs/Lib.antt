@@ -4,3 +4,4 @@ pub mod FrameLines
 pub mod Appended
 pub mod ShownNames
 pub mod Dumped
+pub mod PassedLines

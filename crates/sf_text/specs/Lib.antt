@@ -14,5 +14,6 @@ pub mod Summary
 pub mod ShownName
 pub mod Slim
 pub mod Upgraded
+pub mod Passed
 pub mod PltReport
 pub mod Verdict

@@ -16,9 +16,11 @@ pub enum Output<'a> {
     Text(Vec<u8>),
     /// The whole content of a section. Its text is written in pieces, and never held whole.
     Section(View<'a>),
+    /// A text, and lines about it for the errors.
+    Noted { text: Vec<u8>, notes: Vec<u8> },
 }
 
-/// Appends what a run prints to the sink. Allocates nothing.
+/// Appends what a run prints to the sink, without its notes. Allocates nothing.
 ///
 /// # Errors
 ///
@@ -31,5 +33,6 @@ pub fn put_output<S: Sink>(sink: &mut S, output: &Output<'_>) -> Result<(), Fail
     match output {
         Output::Text(text) => put_all(sink, text),
         Output::Section(view) => put_dump(sink, view),
+        Output::Noted { text, .. } => put_all(sink, text),
     }
 }
