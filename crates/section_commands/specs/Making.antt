@@ -3,13 +3,13 @@ use Rattle.std.specs.Prelude.{◌≡◌, Bool, true, Result, Ok, Err, IfErr}
 use Rattle.std.specs.Option.{option_map}
 use Rattle.sf_model.specs.Notice.{HasLine}
 use Rattle.sf_model.specs.FaultShown.{shown_by}
-use Rattle.sf_text.specs.Output.{output_text}
+use Rattle.sf_text.specs.Output.{output_notes, output_text}
 use Rattle.sf_words.specs.declared.refusal.Refusal.{Refusal}
 use Rattle.sf_words.specs.declared.refusal.Refusal.TheVariants as refusal
 use Rattle.section_commands.specs.declared.made.Made.{Made}
 use Rattle.section_commands.specs.declared.made.Unmade.{Unmade}
 use Rattle.section_commands.specs.declared.made.Unmade.TheVariants.{Refused as RefusedBy, Unread}
-use Rattle.section_commands.specs.Coming.{Coming, Refused, Exceeded, Makes}
+use Rattle.section_commands.specs.Coming.{Coming, Refused, Exceeded, MakesNoting}
 
 -- a refusal is what the run comes to, or memory ran out
 abbrev pub ComesAs : (Coming → Type 0) → Refusal → Type 0
@@ -20,7 +20,7 @@ ComesAs Is (refusal.Input notice) = HasLine notice × Is (Refused (shown_by noti
 
 -- what was made, as what the run comes to
 abbrev pub coming_of : Made → Coming
-coming_of made = Makes made.outcome (option_map (λ v. v.items) made.section) (output_text made.output)
+coming_of made = MakesNoting made.outcome (option_map (λ v. v.items) made.section) (output_text made.output) (output_notes made.output)
 
 -- what is made is what the run comes to, or a refusal is, or memory ran out
 abbrev pub ComesTo : (Coming → Type 0) → Result Made Refusal → Type 0
