@@ -12,4 +12,6 @@ mod modules;
 #[cfg(test)]
 mod running;
 #[cfg(test)]
+mod shown;
+#[cfg(test)]
 mod tables;

@@ -5,103 +5,81 @@ ghost use Rattle.sf_asm.specs.Functions.{object_of};
 
 mod cases;
 
-use cases::{CASES, HIGH, LOW, OMITTED};
+use crate::shown::hex_of;
+use base_tests::tables::{expect, number, row};
+use cases::{AFTER_AARCH64, AFTER_AMD64, GROUPS, PAIRS, sample_of};
+use elf_dwarf_tests::samples::file_of;
 use sf_asm::{Gathered, Input, InputBytes, LinkFault, Linked, gather};
 use sf_link::link;
 use sf_model::{Arch, Form};
 use std::alloc::Global;
-use std::process::Abort;
 use std::test::*;
 
-/// One input: its form, its bytes in hexadecimal, those that are changed, and its base.
-#[derive(Clone, Copy)]
-pub struct Given {
+/// An input that a table gives.
+#[derive(Drop)]
+struct Given {
     form: Form,
-    bytes: &'static str,
-    edits: &'static [(u16, u8)],
+    bytes: Vec<u8>,
     base: u64,
 }
 
-/// Two inputs, what stands before them, where the section lies, and the section in hexadecimal or the fault.
-pub struct Case {
-    shows: &'static str,
-    inputs: [Given; 2],
-    before: Option<Arch>,
-    at: u64,
-    answer: &'static str,
-}
-
-/// The bytes of an input.
-fn bytes_of(alloc: Global, given: &Given) -> Result<Vec<u8>, Fail> {
-    let mut bytes = Vec::new(alloc);
-    for word in given.bytes.split_whitespace() {
-        bytes.push(u8::from_str_radix(word, 16)?)?;
-    }
-    for (place, byte) in given.edits {
-        if usize::from(*place) < bytes.len() {
-            bytes[usize::from(*place)] = *byte;
-        }
-    }
-    Ok(bytes)
-}
-
-/// An input, of bytes that are short enough.
-fn input_of<'a>(given: &Given, bytes: &'a [u8]) -> Result<Input<'a>, Fail>
-    ensures { IfOk result (λ input. length (object_of input).bytes < 2 ^ 32) }
+/// Reads an input: the name of its bytes, its base, and what is written into them.
+fn given_of(alloc: Global, text: &str) -> Result<Given, Fail>
+    ensures { IfOk result (λ given. length given.bytes.items < 2 ^ 32) }
 {
-    if bytes.len() >= 1 << 32 {
-        return Err("too long")?;
-    }
-    Ok(Input {
-        bytes: InputBytes::whole(given.form, bytes),
-        base: given.base,
+    let text = text.trim();
+    let (word, edits) = text.split_once(' ').unwrap_or((text, ""));
+    let (name, base) = word.split_once('@').ok_or("a base")?;
+    let (form, bytes) = sample_of(name);
+    Ok(Given {
+        form,
+        bytes: file_of(alloc, bytes, edits)?,
+        base: number(base)?,
     })
 }
 
-/// A section in hexadecimal, or the fault.
-fn told(alloc: Global, linked: &Result<Linked, LinkFault>) -> Result<String, Fail> {
-    match linked {
-        Err(fault) => Ok(format!(in alloc; "{fault:?}")?),
-        Ok(linked) => {
-            let mut text = String::new(alloc);
-            for byte in linked.section.as_slice() {
-                if !text.is_empty() {
-                    text.push(' ')?;
-                }
-                text.push_str(&format!(in alloc; "{byte:02x}")?)?;
-            }
-            Ok(text)
-        }
+/// Returns an input to link.
+fn input_of(given: &Given) -> Input<'_>
+    requires { length given.now.bytes.items < 2 ^ 32 }
+    ensures { length (object_of result).bytes < 2 ^ 32 }
+{
+    Input {
+        bytes: InputBytes::whole(given.form, &given.bytes),
+        base: given.base,
     }
 }
 
-fn expect_case(rt: &impl Abort, alloc: Global, case: &Case) -> Result<(), Fail> {
-    let first = bytes_of(alloc, &case.inputs[0])?;
-    let second = bytes_of(alloc, &case.inputs[1])?;
-    let inputs = [
-        input_of(&case.inputs[0], &first)?,
-        input_of(&case.inputs[1], &second)?,
-    ];
-    let linked = link(alloc, &inputs, case.at, case.before);
-    assert_eq!(rt;
-        told(alloc, &linked)?.as_str(),
-        case.answer,
-        "{}",
-        case.shows
-    );
-    Ok(())
+/// Returns a section in hexadecimal, or the fault.
+fn shown(alloc: Global, linked: &Result<Linked, LinkFault>) -> Result<String, Fail> {
+    match linked {
+        Ok(linked) => hex_of(alloc, &linked.section),
+        Err(fault) => Ok(format!(in alloc; "{fault:?}")?),
+    }
 }
 
-fn expect_cases(rt: &impl Abort, alloc: Global, cases: &[Case]) -> Result<(), Fail> {
-    for case in cases {
-        expect_case(rt, alloc, case)?;
+/// Fails unless linking the two inputs of each row into a section at this address gives the section or the fault that the table wants. What
+/// comes before them is for this machine.
+fn expect_pairs(alloc: Global, at: u64, before: Option<Arch>, table: &str) -> Result<(), Fail> {
+    for line in table.lines() {
+        if let Some((given, wanted)) = row(line) {
+            let (first, second) = given.split_once(';').ok_or("two inputs")?;
+            let first = given_of(alloc, first)?;
+            let second = given_of(alloc, second)?;
+            let inputs = [input_of(&first), input_of(&second)];
+            let linked = link(alloc, &inputs, at, before);
+            expect(given, shown(alloc, &linked)?.as_str(), wanted)?;
+        }
     }
     Ok(())
 }
 
 #[test]
 fn two_inputs_are_linked_or_refused(rt: HostRuntime) -> Result<(), Fail> {
-    expect_cases(&rt, rt.alloc(), &CASES)
+    let alloc = rt.alloc();
+    expect_pairs(alloc, 0x3000, None, PAIRS)?;
+    expect_pairs(alloc, 0x3000, Some(Arch::Amd64), AFTER_AMD64)?;
+    expect_pairs(alloc, 0x3000, Some(Arch::Aarch64), AFTER_AARCH64)?;
+    expect_pairs(alloc, 0x600000, None, GROUPS)
 }
 
 /// The starts of the kept functions, list by list, of the omitted ones, and of all.
@@ -128,17 +106,12 @@ fn starts_of(alloc: Global, gathered: &Gathered) -> Result<String, Fail> {
 #[test]
 fn functions_are_handed_out_by_inputs(rt: HostRuntime) -> Result<(), Fail> {
     let alloc = rt.alloc();
-    let low = bytes_of(alloc, &LOW)?;
-    let omitted = bytes_of(alloc, &OMITTED)?;
-    let high = bytes_of(alloc, &HIGH)?;
-    let inputs = [
-        input_of(&HIGH, &high)?,
-        input_of(&OMITTED, &omitted)?,
-        input_of(&LOW, &low)?,
-    ];
+    let high = given_of(alloc, "pushes@0x2020")?;
+    let omitted = given_of(alloc, "outermost@0x2010")?;
+    let low = given_of(alloc, "pushes@0x2000")?;
+    let inputs = [input_of(&high), input_of(&omitted), input_of(&low)];
     let gathered = gather(alloc, &inputs, Some(Arch::Amd64))?;
     let expected =
         "kept 1020\nkept\nkept 1000\nomitted 1010 of 2\nall 1000 of 3 1010 of 2 1020 of 1";
-    assert_eq!(rt; starts_of(alloc, &gathered)?.as_str(), expected);
-    Ok(())
+    expect("starts", starts_of(alloc, &gathered)?.as_str(), expected)
 }

@@ -1,5 +1,7 @@
 //! The tables of files of a process, by a file that was written from the standards.
 
+use crate::shown::hex_of;
+use base_tests::tables::{expect, prints, row};
 use elf_dwarf_tests::samples::file_of;
 use module_tables::{ModuleTable, module_table};
 use sf_asm::InputBytes;
@@ -29,38 +31,21 @@ const RESTORE_RT: &str = "\
     00 00 00 00 00 00 00 00";
 
 /// A section without functions for AMD64.
-const EMPTY: [u8; 28] = [
-    0xe2, 0xde, 0x02, 0x05, 0x03, 0x00, 0xf8, 0x00, 0x00, 0x00, 0x00, 0x00, 0x00, 0x00, 0x00, 0x00,
-    0x00, 0x00, 0x00, 0x00, 0x00, 0x00, 0x00, 0x00, 0x00, 0x00, 0x00, 0x00,
-];
+const EMPTY: &str =
+    "e2 de 02 05 03 00 f8 00 00 00 00 00 00 00 00 00 00 00 00 00 00 00 00 00 00 00 00 00";
 
-/// The file with some of its bytes changed; the addresses of a signal frame, and its distances from the stack pointer to the
-/// frame address, the return address and the frame pointer, if it has one.
-struct Case {
-    shows: &'static str,
-    edits: &'static str,
-    wanted: Option<(u64, u64, [i64; 3])>,
-}
+/// What is changed in the file; and how many signal frames its table has, with the first one's address, size, and distances from the stack
+/// pointer to the frame address, the return address and the frame pointer.
+const CHANGES: &str = "
+    # The file was mapped 0x10000 up.
+    => (1, Some((69632, 10, [160, 168, 120])))
+    # The section is named .xh_frame.
+    @222 78 => (0, None)
+    # Another row begins at its second byte.
+    @210 41 => (0, None)
+";
 
-const CASES: [Case; 3] = [
-    Case {
-        shows: "the file was mapped 0x10000 up",
-        edits: "",
-        wanted: Some((0x11000, 10, [160, 168, 120])),
-    },
-    Case {
-        shows: "the section is named .xh_frame",
-        edits: "@222 78",
-        wanted: None,
-    },
-    Case {
-        shows: "another row begins at its second byte",
-        edits: "@210 41",
-        wanted: None,
-    },
-];
-
-/// Returns the signal frames of a table as the cases have them.
+/// Returns the first signal frame of a table as its row has it.
 fn first_signal(table: &ModuleTable) -> Option<(u64, u64, [i64; 3])> {
     let signal = table.signals.first()?;
     let frame = &signal.leads_to;
@@ -74,17 +59,15 @@ fn first_signal(table: &ModuleTable) -> Option<(u64, u64, [i64; 3])> {
 
 #[test]
 fn files_have_signal_frames(rt: HostRuntime) -> Result<(), Fail> {
-    for case in &CASES {
-        let file = file_of(rt.alloc(), RESTORE_RT, case.edits)?;
-        let table = module_table(rt.alloc(), InputBytes::File(&file), 0x10000, 0x13000)?;
-        assert_eq!(rt;
-            table.section.as_slice(),
-            EMPTY.as_slice(),
-            "{}",
-            case.shows
-        );
-        assert_eq!(rt; first_signal(&table), case.wanted, "{}", case.shows);
-        assert!(rt; table.signals.len() <= 1);
+    let alloc = rt.alloc();
+    for line in CHANGES.lines() {
+        if let Some((edits, wanted)) = row(line) {
+            let file = file_of(alloc, RESTORE_RT, edits)?;
+            let table = module_table(alloc, InputBytes::File(&file), 0x10000, 0x13000)?;
+            expect(line, hex_of(alloc, &table.section)?.as_str(), EMPTY)?;
+            let found = (table.signals.len(), first_signal(&table));
+            prints(alloc, line, &found, wanted)?;
+        }
     }
     Ok(())
 }

@@ -5,12 +5,12 @@ ghost use Rattle.std.specs.Prelude.{◌<◌};
 
 mod worked;
 
+use base_tests::tables::{bytes_of, expect, number, prints};
 use sf_fakes::{MemFiles, MemSink};
 use sf_run::{Status, run};
 use std::alloc::{AllocError, Global};
-use std::process::Abort;
 use std::test::Fail;
-use worked::{WORKED, Worked};
+use worked::{WORKED, Worked, read_of, worked_of};
 
 /// How a run ends whose call fails: its status, its line, and what it leaves in `o`.
 #[derive(Drop)]
@@ -38,18 +38,6 @@ fn words_of(alloc: Global, line: &str) -> Result<Vec<String>, AllocError> {
     Ok(words)
 }
 
-/// The bytes that are written in hexadecimal: `00*9` is nine of them.
-fn bytes_of(alloc: Global, text: &str) -> Result<Vec<u8>, Fail> {
-    let mut bytes = Vec::new(alloc);
-    for word in text.split_whitespace() {
-        let (byte, count) = word.split_once('*').unwrap_or((word, "1"));
-        for _ in 0..count.parse::<u32>()? {
-            bytes.push(u8::from_str_radix(byte, 16)?)?;
-        }
-    }
-    Ok(bytes)
-}
-
 /// Runs the words over these files.
 fn run_over(
     alloc: Global,
@@ -71,7 +59,7 @@ fn run_over(
 /// Runs a command over its files. Their calls with these numbers fail.
 fn run_worked(
     alloc: Global,
-    worked: &Worked,
+    worked: &Worked<'_>,
     most: usize,
     fails: Vec<u64>,
     out: MemSink,
@@ -79,16 +67,18 @@ fn run_worked(
     requires { 0 < most }
 {
     let mut files = MemFiles::new(alloc, most, fails);
-    for (name, bytes, _) in worked.reads {
-        let put = files.put(name, bytes_of(alloc, bytes)?);
-        put.ok().ok_or("memory")?;
+    for read in worked.reads.split(';') {
+        if let Some((name, bytes, _)) = read_of(read) {
+            let put = files.put(name, bytes_of(alloc, bytes)?);
+            put.ok().ok_or("memory")?;
+        }
     }
     let err = MemSink::new(alloc, 16, Vec::new(alloc));
     run_over(alloc, worked.words, files, out, err)
 }
 
 /// The section that a run leaves.
-fn section_of(alloc: Global, worked: &Worked) -> Result<Option<Vec<u8>>, Fail> {
+fn section_of(alloc: Global, worked: &Worked<'_>) -> Result<Option<Vec<u8>>, Fail> {
     match worked.section {
         Some(section) => Ok(Some(bytes_of(alloc, section)?)),
         None => Ok(None),
@@ -96,7 +86,7 @@ fn section_of(alloc: Global, worked: &Worked) -> Result<Option<Vec<u8>>, Fail> {
 }
 
 /// How a run ends of which no call fails.
-fn done_of(alloc: Global, worked: &Worked) -> Result<End, Fail> {
+fn done_of(alloc: Global, worked: &Worked<'_>) -> Result<End, Fail> {
     Ok(End {
         status: Status::Done,
         line: String::new(alloc),
@@ -133,42 +123,63 @@ fn push_reads(
 /// length is asked for, and each part is moved to and read. Where there is no length or no move, the file is read whole.
 fn push_parts(
     alloc: Global,
-    worked: &Worked,
+    worked: &Worked<'_>,
     name: &str,
-    parts: &[usize],
+    parts: &str,
     most: usize,
     ends: &mut Vec<End>,
 ) -> Result<(), Fail>
     requires { 0 < most }
 {
     ends.push(done_of(alloc, worked)?)?;
-    for size in parts {
+    for size in parts.split_whitespace() {
         ends.push(done_of(alloc, worked)?)?;
-        push_reads(alloc, name, *size, most, ends)?;
+        push_reads(alloc, name, number(size)? as usize, most, ends)?;
     }
     Ok(())
 }
 
-/// How a run ends for each call of the files that it reads, in their order, where that call fails: a file is opened, and read by
-/// parts, or up to its end and once more.
-fn ends_of_reads(alloc: Global, worked: &Worked, most: usize) -> Result<Vec<End>, Fail>
+/// Appends how a run ends for each call of a file that it reads where that call fails: the file is opened, and read by parts, or up
+/// to its end and once more.
+fn push_read(
+    alloc: Global,
+    worked: &Worked<'_>,
+    read: &str,
+    most: usize,
+    ends: &mut Vec<End>,
+) -> Result<(), Fail>
+    requires { 0 < most }
+{
+    let Some((name, bytes, parts)) = read_of(read) else {
+        return Ok(());
+    };
+    ends.push(unread(alloc, name)?)?;
+    if parts.is_empty() {
+        push_reads(alloc, name, bytes_of(alloc, bytes)?.len(), most, ends)?;
+        ends.push(unread(alloc, name)?)?;
+        return Ok(());
+    }
+    push_parts(alloc, worked, name, parts, most, ends)
+}
+
+/// How a run ends for each call of the files that it reads, in their order, where that call fails.
+fn ends_of_reads(alloc: Global, worked: &Worked<'_>, most: usize) -> Result<Vec<End>, Fail>
     requires { 0 < most }
 {
     let mut ends = Vec::new(alloc);
-    for (name, bytes, parts) in worked.reads {
-        ends.push(unread(alloc, name)?)?;
-        if parts.is_empty() {
-            push_reads(alloc, name, bytes_of(alloc, bytes)?.len(), most, &mut ends)?;
-            ends.push(unread(alloc, name)?)?;
-        } else {
-            push_parts(alloc, worked, name, parts, most, &mut ends)?;
-        }
+    for read in worked.reads.split(';') {
+        push_read(alloc, worked, read, most, &mut ends)?;
     }
     Ok(ends)
 }
 
 /// Appends how a run ends for each call of the section's file where that call fails: it is created and written.
-fn push_writes(alloc: Global, worked: &Worked, most: usize, ends: &mut Vec<End>) -> Result<(), Fail>
+fn push_writes(
+    alloc: Global,
+    worked: &Worked<'_>,
+    most: usize,
+    ends: &mut Vec<End>,
+) -> Result<(), Fail>
     requires { 0 < most }
 {
     if let Some(section) = section_of(alloc, worked)? {
@@ -191,29 +202,27 @@ fn push_writes(alloc: Global, worked: &Worked, most: usize, ends: &mut Vec<End>)
     Ok(())
 }
 
-/// Asserts how a run ended.
-fn expect(rt: &impl Abort, worked: &Worked, number: u64, ended: &Ended, end: &End, text: &[u8]) {
-    let Worked { words, .. } = worked;
-    assert_eq!(rt; ended.status, end.status, "{words}: call {number}");
-    assert_eq!(rt;
-        ended.err.bytes(),
-        end.line.as_bytes(),
-        "{words}: call {number}"
-    );
-    assert_eq!(rt; ended.out.bytes(), text, "{words}: call {number}");
-    assert_eq!(rt;
-        ended.files.get("o"),
-        end.section.as_deref(),
-        "{words}: call {number}"
-    );
+/// Returns whether a run ended so, with this text.
+fn is_end(ended: &Ended, end: &End, text: &[u8]) -> bool {
+    ended.status == end.status
+        && ended.err.bytes() == end.line.as_bytes()
+        && ended.out.bytes() == text
+        && ended.files.get("o") == end.section.as_deref()
 }
 
-/// Asserts that each call of the files that fails ends a run as it has to, where these are the ends for those that read, and
-/// that there is no call after the last of them.
+/// Fails unless a run ended so, and names the call that failed in it.
+fn expect_end(words: &str, number: u64, ended: &Ended, end: &End, text: &[u8]) -> Result<(), Fail> {
+    if is_end(ended, end, text) {
+        return Ok(());
+    }
+    Err(Fail::new(format_args!("{words}: call {number}")))
+}
+
+/// Fails unless each call of the files that fails ends a run as it has to, where these are the ends for those that read, and
+/// there is no call after the last of them.
 fn expect_calls(
-    rt: &impl Abort,
     alloc: Global,
-    worked: &Worked,
+    worked: &Worked<'_>,
     most: usize,
     mut ends: Vec<End>,
 ) -> Result<(), Fail>
@@ -229,38 +238,50 @@ fn expect_calls(
         } else {
             ""
         };
-        expect(rt, worked, number, &ended, end, text.as_bytes());
+        expect_end(worked.words, number, &ended, end, text.as_bytes())?;
     }
     Ok(())
 }
 
-/// Asserts that each call of the files that fails ends each run as it has to.
-fn expect_calls_of_files(rt: &impl Abort, alloc: Global, most: usize) -> Result<(), Fail>
+/// Fails unless each call of the files that fails ends each run as it has to.
+fn expect_calls_of_files(alloc: Global, most: usize) -> Result<(), Fail>
     requires { 0 < most }
 {
-    for worked in &WORKED {
-        let ends = ends_of_reads(alloc, worked, most)?;
-        expect_calls(rt, alloc, worked, most, ends)?;
+    for line in WORKED.lines() {
+        if let Some(worked) = worked_of(line) {
+            let ends = ends_of_reads(alloc, &worked, most)?;
+            expect_calls(alloc, &worked, most, ends)?;
+        }
     }
     Ok(())
 }
 
-/// Asserts that each write of the output that fails ends each run as it has to, with the section whole.
-fn expect_writes_of_output(rt: &impl Abort, alloc: Global, most: usize) -> Result<(), Fail>
+/// Fails unless each write of the output that fails ends a run as it has to, with the section whole.
+fn expect_writes(alloc: Global, worked: &Worked<'_>, most: usize) -> Result<(), Fail>
     requires { 0 < most }
 {
-    for worked in &WORKED {
-        let mut written = Vec::new(alloc);
-        for (number, range) in (1u64..).zip(worked.text.as_bytes().chunks(most)) {
-            let out = MemSink::new(alloc, most, vec![in alloc; number]?);
-            let ended = run_worked(alloc, worked, 64, Vec::new(alloc), out)?;
-            let end = End {
-                status: Status::Write,
-                line: String::from_str(alloc, "write output\n")?,
-                section: section_of(alloc, worked)?,
-            };
-            expect(rt, worked, number, &ended, &end, &written);
-            written.extend_from_slice(range)?;
+    let mut written = Vec::new(alloc);
+    for (number, range) in (1u64..).zip(worked.text.as_bytes().chunks(most)) {
+        let out = MemSink::new(alloc, most, vec![in alloc; number]?);
+        let ended = run_worked(alloc, worked, 64, Vec::new(alloc), out)?;
+        let end = End {
+            status: Status::Write,
+            line: String::from_str(alloc, "write output\n")?,
+            section: section_of(alloc, worked)?,
+        };
+        expect_end(worked.words, number, &ended, &end, &written)?;
+        written.extend_from_slice(range)?;
+    }
+    Ok(())
+}
+
+/// Fails unless each write of the output that fails ends each run as it has to.
+fn expect_writes_of_output(alloc: Global, most: usize) -> Result<(), Fail>
+    requires { 0 < most }
+{
+    for line in WORKED.lines() {
+        if let Some(worked) = worked_of(line) {
+            expect_writes(alloc, &worked, most)?;
         }
     }
     Ok(())
@@ -268,25 +289,24 @@ fn expect_writes_of_output(rt: &impl Abort, alloc: Global, most: usize) -> Resul
 
 #[test]
 fn each_call_of_files_that_move_one_byte_fails(rt: HostRuntime) -> Result<(), Fail> {
-    expect_calls_of_files(&rt, rt.alloc(), 1)
+    expect_calls_of_files(rt.alloc(), 1)
 }
 
 #[test]
 fn each_call_of_files_that_move_several_bytes_fails(rt: HostRuntime) -> Result<(), Fail> {
-    expect_calls_of_files(&rt, rt.alloc(), 7)?;
-    expect_calls_of_files(&rt, rt.alloc(), 16)
+    expect_calls_of_files(rt.alloc(), 7)?;
+    expect_calls_of_files(rt.alloc(), 16)
 }
 
 #[test]
 fn each_write_of_the_output_fails(rt: HostRuntime) -> Result<(), Fail> {
-    expect_writes_of_output(&rt, rt.alloc(), 1)?;
-    expect_writes_of_output(&rt, rt.alloc(), 7)?;
-    expect_writes_of_output(&rt, rt.alloc(), 16)
+    expect_writes_of_output(rt.alloc(), 1)?;
+    expect_writes_of_output(rt.alloc(), 7)?;
+    expect_writes_of_output(rt.alloc(), 16)
 }
 
-/// Asserts that each write of the errors that fails cuts the line there, and leaves the status.
+/// Fails unless each write of the errors that fails cuts the line there, and leaves the status.
 fn expect_writes_of_errors(
-    rt: &impl Abort,
     alloc: Global,
     words: &str,
     status: Status,
@@ -299,12 +319,9 @@ fn expect_writes_of_errors(
         let out = MemSink::new(alloc, 1, Vec::new(alloc));
         let err = MemSink::new(alloc, 1, vec![in alloc; number]?);
         let ended = run_over(alloc, words, files, out, err)?;
-        assert_eq!(rt; ended.status, status, "{words}: call {number}");
-        assert_eq!(rt;
-            ended.err.bytes(),
-            written.as_slice(),
-            "{words}: call {number}"
-        );
+        if ended.status != status || ended.err.bytes() != written.as_slice() {
+            return Err(Fail::new(format_args!("{words}: call {number}")));
+        }
         written.push(*byte)?;
     }
     Ok(())
@@ -313,12 +330,12 @@ fn expect_writes_of_errors(
 #[test]
 fn each_write_of_the_errors_fails(rt: HostRuntime) -> Result<(), Fail> {
     let alloc = rt.alloc();
-    expect_writes_of_errors(&rt, alloc, "link o@0x3000 e", Status::Usage, b"usage\n")?;
+    expect_writes_of_errors(alloc, "link o@0x3000 e", Status::Usage, b"usage\n")?;
     let missing = "link o@0x3000 eh-amd64:x@0x2000";
-    expect_writes_of_errors(&rt, alloc, missing, Status::Read, b"read x\n")?;
+    expect_writes_of_errors(alloc, missing, Status::Read, b"read x\n")?;
     let refused = "link o@0x3000 eh-amd64:e@0x2000";
     let line = b"refused 0 record Short 0x0 0x0\n";
-    expect_writes_of_errors(&rt, alloc, refused, Status::Refused, line)
+    expect_writes_of_errors(alloc, refused, Status::Refused, line)
 }
 
 #[test]
@@ -326,12 +343,11 @@ fn an_input_longer_than_the_limit_is_refused(rt: HostRuntime) -> Result<(), Fail
     let alloc = rt.alloc();
     let mut files = MemFiles::new(alloc, 1 << 24, Vec::new(alloc));
     let bytes = vec![in alloc; 0u8; (1 << 28) + 1]?;
-    assert!(rt; files.put("e1", bytes).is_ok());
+    files.put("e1", bytes).ok().ok_or("memory")?;
     let out = MemSink::new(alloc, 16, Vec::new(alloc));
     let err = MemSink::new(alloc, 16, Vec::new(alloc));
     let words = "link o@0x3000 eh-amd64:e1@0x2000";
     let ended = run_over(alloc, words, files, out, err)?;
-    assert_eq!(rt; ended.status, Status::Limit);
-    assert_eq!(rt; ended.err.bytes(), b"limit file 0\n".as_slice());
-    Ok(())
+    prints(alloc, words, &ended.status, "Limit")?;
+    expect(words, str::from_utf8(ended.err.bytes())?, "limit file 0\n")
 }

@@ -1,127 +1,115 @@
 //! A run of each command that is done, with the values of its cases.
 
-/// A file that is read: its name, its bytes, and how many bytes each part has that is read of it, or nothing if it is read whole.
-pub type Read = (&'static str, &'static str, &'static [usize]);
+use base_tests::tables::row;
 
-/// The words of a run, the files that it reads, in their order, the section that it leaves in `o`, and its text.
-pub struct Worked {
-    pub words: &'static str,
-    pub reads: &'static [Read],
+/// The words of a run, the files that it reads, the section that it leaves in `o`, and its text.
+#[derive(Drop)]
+pub struct Worked<'t> {
+    pub words: &'t str,
+    pub reads: &'t str,
     pub section: Option<&'static str>,
     pub text: &'static str,
 }
 
-pub const WORKED: [Worked; 14] = [
-    Worked {
-        words: "link o@0x3000 eh-amd64:e@0x2000",
-        reads: &[("e", ONE_FUNCTION, &[])],
-        section: Some(ONE_FUNCTION_SECTION),
-        text: "kept 1 omitted 0\n",
-    },
-    Worked {
-        words: "linkplt o@0x3000 eh-amd64:p@0x2000",
-        reads: &[("p", PLT, &[])],
-        section: Some(PLT_SECTION),
-        text: "plt 0x1000 size 48 input 0 section 0 fde 0x18\nkept 0 omitted 0 plt 1\n",
-    },
-    Worked {
-        words: "merge o@0x3000 s@0x3000 n@0x3000",
-        reads: &[
-            ("s", ONE_FUNCTION_SECTION, &[]),
-            ("n", NO_FUNCTIONS_SECTION, &[]),
-        ],
-        section: Some(ONE_FUNCTION_SECTION),
-        text: "merged 1 functions 4 rows\n",
-    },
-    Worked {
-        words: "slim o@0x3000 s@0x3000",
-        reads: &[("s", ONE_FUNCTION_SECTION, &[])],
-        section: Some(ONE_FUNCTION_SECTION),
-        text: "slim 63 63 functions 1 rows 4\n",
-    },
-    Worked {
-        words: "upgrade o@0x3000 s@0x3000",
-        reads: &[("s", ONE_FUNCTION_SECTION, &[])],
-        section: Some(ONE_FUNCTION_UPGRADED),
-        text: "upgraded 1 functions 4 rows\n",
-    },
-    Worked {
-        words: "dump s@0x3000",
-        reads: &[("s", ONE_FUNCTION_SECTION, &[])],
-        section: None,
-        text: "sframe 2 amd64 flags 0x5 functions 1 rows 4\nfunc 0x1000 size 6 plain key a rows 4\n  \
-               +0 cfa=sp+8\n  +1 cfa=sp+16 fp=c-16\n  +4 cfa=fp+16 fp=c-16\n  +5 cfa=sp+8 fp=c-16\n",
-    },
-    Worked {
-        words: "lookup s@0x3000 0x1005",
-        reads: &[("s", ONE_FUNCTION_SECTION, &[])],
-        section: None,
-        text: "0x1005 in 0x1000 row +5 cfa=sp+8 fp=c-16\n",
-    },
-    Worked {
-        words: "verify s@0x3000 eh-amd64:e@0x2000",
-        reads: &[("s", ONE_FUNCTION_SECTION, &[]), ("e", ONE_FUNCTION, &[])],
-        section: None,
-        text: "agrees checked 1 missing 0 repeats 0\n",
-    },
-    Worked {
-        words: "gen 1",
-        reads: &[],
-        section: None,
-        text: "gen 1 kept 1 omitted 0 length 57 sum 1680\n",
-    },
-    // No memory is where the stack pointer is, so the walk misses it, and the core file is read again.
-    Worked {
-        words: "walk s@0x3000 c 64",
-        reads: &[
-            ("s", ONE_FUNCTION_SECTION, &[]),
-            ("c", CORE, HEAD),
-            ("c", CORE, HEAD_AND_MEMORY),
-        ],
-        section: None,
-        text: WALKED,
-    },
-    Worked {
-        words: "backtrace o@0x3000 c 64 eh-amd64:e@0x2000",
-        reads: &[
-            ("c", CORE, HEAD),
-            ("e", ONE_FUNCTION, &[]),
-            ("c", CORE, HEAD_AND_MEMORY),
-        ],
-        section: Some(ONE_FUNCTION_SECTION),
-        text: WALKED,
-    },
-    // The file has no call frame information, so it is read again, whole.
-    Worked {
-        words: "procwalk c 64 a",
-        reads: &[
-            ("c", MAPPED_CORE, MAPPED_PARTS),
-            ("a", MODULE, &[64, 192, 19]),
-            ("a", MODULE, &[]),
-        ],
-        section: None,
-        text: "thread 0 pid 100\n  #0 pc 0x1004 cfa 0x7010\n  #1 pc 0x1005 cfa 0x7020\n  #2 pc 0x0\n  \
-               stop outside 0xffffffffffffffff\nthread 1 pid 101\n  #0 pc 0x1000 cfa 0x9008\n  stop unreadable 0x9000\n",
-    },
-    // The file header, the section headers, their names, the call frame information, and the program header.
-    Worked {
-        words: "procbacktrace c 64 a",
-        reads: &[
-            ("c", MAPPED_CORE, MAPPED_PARTS),
-            ("a", CALLS, &[64, 192, 21, 92, 56]),
-        ],
-        section: None,
-        text: "thread 0 pid 100\n  #0 pc 0x1004 cfa 0x7010 a+0x4\n  #1 pc 0x1005 cfa 0x7020 a+0x5\n  #2 pc 0x0\n  \
-               stop outside 0xffffffffffffffff\nthread 1 pid 101\n  #0 pc 0x1000 cfa 0x9008 a+0x0\n  stop unreadable 0x9000\n",
-    },
-    // The file header, the section headers, their names, and the call frame information.
-    Worked {
-        words: "link o@0x3000 l@0x0",
-        reads: &[("l", LINKED, &[64, 192, 21, 60])],
-        section: Some(ONE_FUNCTION_SECTION),
-        text: "kept 1 omitted 0\n",
-    },
-];
+/// The words of a run, and the files that it reads, in their order, each with its bytes and with the lengths of the parts that are read of it, or
+/// none if it is read whole; and the section that it leaves.
+pub const WORKED: &str = "
+    link o@0x3000 eh-amd64:e@0x2000; e=function => function-section
+    linkplt o@0x3000 eh-amd64:p@0x2000; p=plt => plt-section
+    merge o@0x3000 s@0x3000 n@0x3000; s=function-section; n=no-functions => function-section
+    slim o@0x3000 s@0x3000; s=function-section => function-section
+    upgrade o@0x3000 s@0x3000; s=function-section => function-upgraded
+    dump s@0x3000; s=function-section => none
+    lookup s@0x3000 0x1005; s=function-section => none
+    verify s@0x3000 eh-amd64:e@0x2000; s=function-section; e=function => none
+    gen 1 => none
+    # The file header, the program headers and the notes. No memory is where the stack pointer is, so the walk misses it, and the core file is
+    # read again.
+    walk s@0x3000 c 64; s=function-section; c=core 64 112 356; c=core 64 112 356 32 => none
+    backtrace o@0x3000 c 64 eh-amd64:e@0x2000; c=core 64 112 356; e=function; c=core 64 112 356 32 => function-section
+    # Also the first thread's stack, and the beginning of `/bin/a`. The file has no call frame information, so it is read again, whole.
+    procwalk c 64 a; c=mapped-core 64 168 780 32 8; a=module 64 192 19; a=module => none
+    # The file header, the section headers, their names, the call frame information, and the program header.
+    procbacktrace c 64 a; c=mapped-core 64 168 780 32 8; a=calls 64 192 21 92 56 => none
+    # The same without the program header.
+    link o@0x3000 l@0x0; l=linked 64 192 21 60 => function-section
+";
+
+/// Returns the run of a line of the table.
+pub fn worked_of(line: &str) -> Option<Worked<'_>> {
+    let (given, section) = row(line)?;
+    let (words, reads) = given.split_once(';').unwrap_or((given, ""));
+    Some(Worked {
+        words,
+        reads,
+        section: bytes_named(section),
+        text: text_of(words),
+    })
+}
+
+/// Returns the name of a file that a run reads, its bytes, and the lengths of the parts that are read of it.
+pub fn read_of(text: &str) -> Option<(&str, &'static str, &str)> {
+    let (name, rest) = text.trim().split_once('=')?;
+    let (bytes, parts) = rest.split_once(' ').unwrap_or((rest, ""));
+    Some((name, bytes_named(bytes)?, parts))
+}
+
+/// Returns the bytes that have this name in the table.
+fn bytes_named(name: &str) -> Option<&'static str> {
+    match name {
+        "function" => Some(ONE_FUNCTION),
+        "function-section" => Some(ONE_FUNCTION_SECTION),
+        "function-upgraded" => Some(ONE_FUNCTION_UPGRADED),
+        "no-functions" => Some(NO_FUNCTIONS_SECTION),
+        "plt" => Some(PLT),
+        "plt-section" => Some(PLT_SECTION),
+        "core" => Some(CORE),
+        "mapped-core" => Some(MAPPED_CORE),
+        "module" => Some(MODULE),
+        "linked" => Some(LINKED),
+        "calls" => Some(CALLS),
+        _ => None,
+    }
+}
+
+/// Returns what a run prints.
+fn text_of(words: &str) -> &'static str {
+    match words.split_once(' ') {
+        Some(("link", _)) => "kept 1 omitted 0\n",
+        Some(("linkplt", _)) => {
+            "plt 0x1000 size 48 input 0 section 0 fde 0x18\nkept 0 omitted 0 plt 1\n"
+        }
+        Some(("merge", _)) => "merged 1 functions 4 rows\n",
+        Some(("slim", _)) => "slim 63 63 functions 1 rows 4\n",
+        Some(("upgrade", _)) => "upgraded 1 functions 4 rows\n",
+        Some(("dump", _)) => DUMPED,
+        Some(("lookup", _)) => "0x1005 in 0x1000 row +5 cfa=sp+8 fp=c-16\n",
+        Some(("verify", _)) => "agrees checked 1 missing 0 repeats 0\n",
+        Some(("gen", _)) => "gen 1 kept 1 omitted 0 length 57 sum 1680\n",
+        Some(("procwalk", _)) => PROCESS_WALKED,
+        Some(("procbacktrace", _)) => FILES_WALKED,
+        _ => WALKED,
+    }
+}
+
+/// What the section has.
+const DUMPED: &str =
+    "sframe 2 amd64 flags 0x5 functions 1 rows 4\nfunc 0x1000 size 6 plain key a rows 4\n  \
+     +0 cfa=sp+8\n  +1 cfa=sp+16 fp=c-16\n  +4 cfa=fp+16 fp=c-16\n  +5 cfa=sp+8 fp=c-16\n";
+
+/// The frames of the core file's thread, by the section at 0x3000.
+const WALKED: &str =
+    "thread 0 pid 100\n  #0 pc 0x1004 cfa 0x7010\n  #1 pc 0x1005 cfa 0x7020\n  #2 pc 0x0\n  stop outside 0xffffffffffffffff\n";
+
+/// The frames of the threads of the core file with mapped files, by the section in the module.
+const PROCESS_WALKED: &str =
+    "thread 0 pid 100\n  #0 pc 0x1004 cfa 0x7010\n  #1 pc 0x1005 cfa 0x7020\n  #2 pc 0x0\n  \
+     stop outside 0xffffffffffffffff\nthread 1 pid 101\n  #0 pc 0x1000 cfa 0x9008\n  stop unreadable 0x9000\n";
+
+/// The same with their file, by its call frame information.
+const FILES_WALKED: &str =
+    "thread 0 pid 100\n  #0 pc 0x1004 cfa 0x7010 a+0x4\n  #1 pc 0x1005 cfa 0x7020 a+0x5\n  #2 pc 0x0\n  \
+     stop outside 0xffffffffffffffff\nthread 1 pid 101\n  #0 pc 0x1000 cfa 0x9008 a+0x0\n  stop unreadable 0x9000\n";
 
 /// For AMD64 and the address 0x2000: one function of 6 bytes at 0x1000.
 const ONE_FUNCTION: &str = "14 00*7 01 7a 52 00 01 78 10 01 1b 0c 07 08 90 01 00 00 \
@@ -155,16 +143,6 @@ const CORE: &str =
      01 00*7 01 00*7 14 02 00*7 70 00*14 20 00*7 20 00*7 01 00*7 05 00*3 50 01 00 00 01 00*3 43 4f 52 45 00*36 64 \
      00*112 70 00*94 04 10 00*22 f0 6f 00*70 10 70 00*6 05 10 00*22";
 
-/// Its file header, its program headers, and its notes.
-const HEAD: &[usize] = &[64, 2 * 56, 356];
-
-/// The same, and its memory.
-const HEAD_AND_MEMORY: &[usize] = &[64, 2 * 56, 356, 32];
-
-/// The frames of that thread, by the section at 0x3000.
-const WALKED: &str =
-    "thread 0 pid 100\n  #0 pc 0x1004 cfa 0x7010\n  #1 pc 0x1005 cfa 0x7020\n  #2 pc 0x0\n  stop outside 0xffffffffffffffff\n";
-
 /// That core file with the stack pointer 0x7000 and a second thread, pid 101 at 0x1000 with the stack pointer 0x9000. A note on mapped
 /// files has the first page of `/bin/a` at 0x1000, and a third segment its first eight bytes.
 const MAPPED_CORE: &str =
@@ -174,9 +152,6 @@ const MAPPED_CORE: &str =
      05 00*3 50 01 00 00 01 00*3 43 4f 52 45 00*36 65 00*208 10 00*23 90 00*70 05 00*3 \
      2f 00*3 45 4c 49 46 43 4f 52 45 00*4 01 00*8 10 00*7 10 00*7 20 00*14 2f 62 69 6e 2f 61 00*6 \
      7f 45 4c 46 02 01 01 00 10 70 00*6 05 10 00*22";
-
-/// Its file header, its program headers, its notes, the first thread's stack, and the beginning of `/bin/a`.
-const MAPPED_PARTS: &[usize] = &[64, 3 * 56, 780, 32, 8];
 
 /// A shared object for AMD64, loaded from its first byte on, with a section `.sframe` at 0x200: a function of 6 bytes at 0.
 const MODULE: &str =
