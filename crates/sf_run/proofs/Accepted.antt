@@ -10,24 +10,24 @@ use Rattle.sf_asm.proofs.Accepting.{accepted_links, links_accepted}
 use Rattle.sf_asm.proofs.OneOrder.{one_result}
 use Rattle.sf_words.specs.declared.refusal.Limit.{Limit}
 use Rattle.sf_words.specs.Forms.{SectionAndInputs}
-use Rattle.section_commands.specs.Coming.{Coming, ComesWithin, Exceeded, Makes, Refused}
+use Rattle.section_commands.specs.Coming.{Coming, ComesWithin, Exceeded, MakesNoting, Refused}
 use Rattle.sf_run.specs.Comes.{Comes, RefusesNothing, command_limit}
 use Rattle.sf_run.specs.Commands.{CommandComes, CommandWords, Link}
 use Rattle.sf_run.specs.Inputs.{objects_in}
 use Rattle.sf_run.specs.Link.{LinkComes, section_and_report}
-use Rattle.sf_run.specs.Linked.{LinkedComesFrom, MakesLinked, coming_of_linking}
+use Rattle.sf_run.specs.Linked.{LinkedComesFrom, MakesLinked, coming_of_link_fault, coming_of_linking}
 use Rattle.sf_run.proofs.SomeLinked.{links_some}
 
 -- it is a refusal, or a limit
 abbrev pub Refuses : Coming → Type 0
 Refuses (Refused shown) = Unit {0}
 Refuses (Exceeded limit) = Unit {0}
-Refuses (Makes outcome section text) = ⊥
+Refuses (MakesNoting outcome section text notes) = ⊥
 
 refuted : (command : CommandWords) (items : List (List ℕ)) → RefusesNothing command items → (coming : Coming) → Refuses coming → Comes command items coming → ⊥
 refuted command items nothing (Refused shown) is h = nothing.accepted shown h
 refuted command items nothing (Exceeded limit) is h = nothing.within limit h
-refuted command items nothing (Makes outcome section text) is h = is
+refuted command items nothing (MakesNoting outcome section text notes) is h = is
 
 -- no limit of loading is exceeded where nothing is refused
 no_limit : (command : CommandWords) (items : List (List ℕ)) → RefusesNothing command items → command_limit command items ≡ None
@@ -37,15 +37,15 @@ no_limit command items nothing = at_limit (command_limit command items) refl
     at_limit None e = e
     at_limit (Some limit) e = absurd (nothing.within limit (subst (λ (l : Option Limit). ComesWithin l (CommandComes command items) (Exceeded limit)) (sym e) refl))
 
-pub linking_refuses : (fault : LinkFault) → Refuses (coming_of_linking fault)
-linking_refuses link.NoMemory = tt
-linking_refuses (link.OutOfReach start) = tt
-linking_refuses (link.Gather gather.NoMemory) = tt
-linking_refuses (link.Gather gather.TooManyFunctions) = tt
-linking_refuses (link.Gather gather.TooManyRows) = tt
-linking_refuses (link.Gather (gather.Input item fault)) = tt
-linking_refuses (link.Gather (gather.MixedArch first item)) = tt
-linking_refuses (link.Gather (gather.Overlap s i t j)) = tt
+pub linking_refuses : (item : Option ℕ) (fault : LinkFault) → Refuses (coming_of_link_fault item fault)
+linking_refuses item link.NoMemory = tt
+linking_refuses item (link.OutOfReach start) = tt
+linking_refuses item (link.Gather gather.NoMemory) = tt
+linking_refuses item (link.Gather gather.TooManyFunctions) = tt
+linking_refuses item (link.Gather gather.TooManyRows) = tt
+linking_refuses item (link.Gather (gather.Input number fault)) = tt
+linking_refuses item (link.Gather (gather.MixedArch first number)) = tt
+linking_refuses item (link.Gather (gather.Overlap s i t j)) = tt
 
 makes_of : (link : SectionAndInputs) (items : List (List ℕ)) (ordered : List ReadFunction) → Links None (objects_in link.inputs items) link.section.at (Ok ordered) → (coming : Coming) → LinkComes link items coming
     → MakesLinked None (objects_in link.inputs items) link.section.at section_and_report coming
@@ -76,5 +76,5 @@ nothing_refused_is_accepted link items nothing = (within, accepted (links_some (
     accepted : (result : Result (List ReadFunction) LinkFault) × Links None (objects_in link.inputs items) link.section.at result → IsAccepted None (objects_in link.inputs items) link.section.at
     accepted (Ok ordered, links) = links_accepted None (objects_in link.inputs items) link.section.at ordered links
     accepted (Err fault, links) =
-        absurd (refuted (Link link) items nothing (coming_of_linking fault) (linking_refuses fault)
+        absurd (refuted (Link link) items nothing (coming_of_linking fault) (linking_refuses None fault)
         (subst (λ (l : Option Limit). ComesWithin l (CommandComes (Link link) items) (coming_of_linking fault)) (sym within) record { result = Err fault; links = links; comes = refl }))

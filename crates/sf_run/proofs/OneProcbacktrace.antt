@@ -1,6 +1,10 @@
 -- Walks through the files of a process come to one thing at most.
-use Rattle.std.proofs.Common.{◌≡◌, ◌+◌, ℕ, Bool, true, false, List, [], ◌∷◌, Some, None, Result, Ok, Err, ap, sym, subst, ◌∙◌, arith}
+use Rattle.std.specs.List.{AllZip}
+use Rattle.std.proofs.Common.{◌≡◌, ◌⊎◌, ℕ, true, false, List, [], ◌∷◌, Some, None, Result, Ok, Err, refl, ap, sym, subst, ◌∙◌, inl, inr, arith}
 use Rattle.sf_model.specs.declared.machine.Arch.{Arch}
+use Rattle.sf_model.specs.FaultShown.{FaultShown}
+use Rattle.elf_read.specs.Header.{arch_of}
+use Rattle.sf_merge.specs.Merging.{same_arch}
 use Rattle.sf_model.specs.Table.{Table}
 use Rattle.sf_write.specs.Section.{table_of}
 use Rattle.sf_lookup.specs.declared.span.Span.{Span}
@@ -18,7 +22,7 @@ use Rattle.sf_plt.proofs.Faults.{one_sorted, one_result}
 use Rattle.sf_modules.specs.Entry.{EntryView}
 use Rattle.sf_modules.specs.Fault.{Check}
 use Rattle.sf_modules.specs.Mapped.{IsMapped, MappedView}
-use Rattle.sf_modules.specs.Match.{matching_entry, is_candidate}
+use Rattle.sf_modules.specs.Match.{matching_entry}
 use Rattle.sf_modules.specs.Module.{file_base}
 use Rattle.sf_modules.specs.Process.{ProcessView}
 use Rattle.sf_modules.specs.Reading.{mapped_check}
@@ -27,9 +31,11 @@ use Rattle.module_tables.specs.Signals.{AreSignals}
 use Rattle.module_tables.specs.Table.{IsModuleTable, file_at}
 use Rattle.module_tables.proofs.OneList.{one_signals}
 use Rattle.process_tables.specs.Modules.{IsMappedModule, MappedModule}
-use Rattle.section_commands.specs.Coming.{Coming}
+use Rattle.sf_text.specs.Passed.{PassedView}
+use Rattle.sf_words.specs.declared.refusal.Limit.{Limit}
+use Rattle.section_commands.specs.Coming.{Coming, Exceeded, Refused}
 use Rattle.section_commands.specs.Process.{File}
-use Rattle.sf_run.specs.Procbacktrace.{FileComes, FilesCome, GoesOn, HasModule, IsRefused, IsUnlinked, Modules, ProcbacktraceComesIn, TurnComes, coming_of_files, coming_of_table, with_module}
+use Rattle.sf_run.specs.Procbacktrace.{FileComes, FileOutcome, HasModule, IsForAnother, IsUnlinked, IsUnusable, IsUsed, NumberedFile, Over, Passed, ProcbacktraceComesIn, Used, coming_of_files, coming_of_table, files_named}
 use Rattle.sf_run.proofs.LinkedComes.{plt_links_of}
 use Rattle.sf_run.proofs.OneLinked.{one_machine}
 
@@ -96,44 +102,66 @@ one_module p item word file m n x y =
 links_at : (file : List ℕ) (v w : MappedView) (result : Result (List Function) LinkFault) → v ≡ w → LinksPlts None (file_at file v.base ∷ []) v.entry.start result → LinksPlts None (file_at file w.base ∷ []) w.entry.start result
 links_at file v w result same = subst (λ (u : MappedView). LinksPlts None (file_at file u.base ∷ []) u.entry.start result) same
 
--- a file that is linked has no fault
-not_both : (p : ProcessView) (item : ℕ) (file : File) (m : MappedModule) (coming : Coming) → HasModule p item file m → IsRefused p item file (mapped_check p file.0 file.1) coming → ⊥
-not_both p item file m coming x refused =
-    let y : IsUnlinked p item file coming = subst (λ (check : Check). IsRefused p item file check coming) x.checked refused in
+-- a file that is linked has no fault of linking
+not_unlinked : (p : ProcessView) (item : ℕ) (file : File) (m : MappedModule) (coming : Coming) → HasModule p item file m → IsUnlinked p item file coming → ⊥
+not_unlinked p item file m coming x y =
     let mapped = one_mapped p file.0 file.1 x.is.mapped y.mapped x.is.is_mapped y.is_mapped in
     let t = x.is.is_table in
     let made = links_at file.1 x.is.mapped y.mapped (Ok t.linked.sorted) mapped (plt_links_of (file_at file.1 x.is.mapped.base ∷ []) x.is.mapped.entry.start x.is.section t.kept t.omitted t.plts t.linked) in
     let no : Ok t.linked.sorted ≡ Err y.fault = one_result None (file_at file.1 y.mapped.base ∷ []) y.mapped.entry.start (Ok t.linked.sorted) (Err y.fault) made y.links in cc
 
-one_refusal : (p : ProcessView) (item : ℕ) (file : File) (check : Check) (c d : Coming) → IsRefused p item file check c → IsRefused p item file check d → c ≡ d
-one_refusal p item file (Err fault) c d x y = x ∙ sym y
-one_refusal p item file (Ok u) c d x y =
+-- a file that is used can be used
+not_unusable : (p : ProcessView) (item : ℕ) (file : File) (m : MappedModule) (coming : Coming) → IsUsed p item file m → IsUnusable p item file (mapped_check p file.0 file.1) coming → ⊥
+not_unusable p item file m coming x unusable = by_kind (subst (λ (check : Check). IsUnusable p item file check coming) x.has.checked unusable)
+  where
+    by_kind : IsUnlinked p item file coming ⊎ IsForAnother p item file coming → ⊥
+    by_kind (inl y) = not_unlinked p item file m coming x.has y
+    by_kind (inr y) =
+        let same = one_module p item file.0 file.1 m y.made x.has.is y.has.is in
+        let no : true ≡ false = sym x.same ∙ ap (λ (n : MappedModule). same_arch (arch_of p.core) n.machine) same ∙ y.other in cc
+
+one_unusable : (p : ProcessView) (item : ℕ) (file : File) (check : Check) (c d : Coming) → IsUnusable p item file check c → IsUnusable p item file check d → c ≡ d
+one_unusable p item file (Err fault) c d x y = x ∙ sym y
+one_unusable p item file (Ok u) c d (inl x) (inl y) =
     let mapped = one_mapped p file.0 file.1 x.mapped y.mapped x.is_mapped y.is_mapped in
     let both : Err x.fault ≡ Err y.fault = one_result None (file_at file.1 y.mapped.base ∷ []) y.mapped.entry.start (Err x.fault) (Err y.fault) (links_at file.1 x.mapped y.mapped (Err x.fault) mapped x.links) y.links in
     let fault : x.fault ≡ y.fault = cc in
     x.is ∙ ap (coming_of_table item) fault ∙ sym y.is
+one_unusable p item file (Ok u) c d (inl x) (inr y) = absurd (not_unlinked p item file y.made c y.has x)
+one_unusable p item file (Ok u) c d (inr x) (inl y) = absurd (not_unlinked p item file x.made d x.has y)
+one_unusable p item file (Ok u) c d (inr x) (inr y) = x.is ∙ sym y.is
 
-one_file : (p : ProcessView) (item : ℕ) (file : File) (a b : Result MappedModule Coming) → FileComes p item file a → FileComes p item file b → a ≡ b
-one_file p item file (Ok m) (Ok n) x y = ap (λ (k : MappedModule). Ok k) (one_module p item file.0 file.1 m n x.is y.is)
-one_file p item file (Ok m) (Err c) x y = absurd (not_both p item file m c x y)
-one_file p item file (Err c) (Ok m) x y = absurd (not_both p item file m c y x)
-one_file p item file (Err c) (Err d) x y = ap (λ (k : Coming). Err k) (one_refusal p item file (mapped_check p file.0 file.1) c d x y)
+passed_alike : (q r : PassedView) → q.name ≡ r.name → q.shown ≡ r.shown → q ≡ r
+passed_alike q r names shown =
+    ap (λ (n : List ℕ). let x : PassedView = record { name = n; shown = q.shown } in x) names
+    ∙ ap (λ (s : FaultShown). let x : PassedView = record { name = r.name; shown = s } in x) shown
+
+one_file : (p : ProcessView) (item : ℕ) (file : File) (a b : FileOutcome) → FileComes p item file a → FileComes p item file b → a ≡ b
+one_file p item file (Used m) (Used n) x y = ap (λ (k : MappedModule). Used k) (one_module p item file.0 file.1 m n x.has.is y.has.is)
+one_file p item file (Used m) (Passed r) x y = absurd (not_unusable p item file m (Refused r.shown) x y.1)
+one_file p item file (Used m) (Over k) x y = absurd (not_unusable p item file m (Exceeded k) x y)
+one_file p item file (Passed q) (Used n) x y = absurd (not_unusable p item file n (Refused q.shown) y x.1)
+one_file p item file (Passed q) (Passed r) x y =
+    let both : Refused q.shown ≡ Refused r.shown = one_unusable p item file (mapped_check p file.0 file.1) (Refused q.shown) (Refused r.shown) x.1 y.1 in
+    let shown : q.shown ≡ r.shown = cc in
+    ap (λ (k : PassedView). Passed k) (passed_alike q r (x.0 ∙ sym y.0) shown)
+one_file p item file (Passed q) (Over k) x y = absurd (let no : Refused q.shown ≡ Exceeded k = one_unusable p item file (mapped_check p file.0 file.1) (Refused q.shown) (Exceeded k) x.1 y in cc)
+one_file p item file (Over l) (Used n) x y = absurd (not_unusable p item file n (Exceeded l) y x)
+one_file p item file (Over l) (Passed r) x y = absurd (let no : Exceeded l ≡ Refused r.shown = one_unusable p item file (mapped_check p file.0 file.1) (Exceeded l) (Refused r.shown) x y.1 in cc)
+one_file p item file (Over l) (Over k) x y =
+    let both : Exceeded l ≡ Exceeded k = one_unusable p item file (mapped_check p file.0 file.1) (Exceeded l) (Exceeded k) x y in
+    let limit : l ≡ k = cc in
+    ap (λ (n : Limit). Over n) limit
 
 -- ---- all files
-goes_on_once : (this : Result MappedModule Coming) (Later : Modules → Type 0) → ((a b : Modules) → Later a → Later b → a ≡ b) → (r s : Modules) → GoesOn this Later r → GoesOn this Later s → r ≡ s
-goes_on_once (Ok m) Later one r s x y = x.2 ∙ ap (with_module m) (one x.0 y.0 x.1 y.1) ∙ sym y.2
-goes_on_once (Err c) Later one r s x y = x ∙ sym y
-
-one_turn : (p : ProcessView) (item : ℕ) (file : File) (Later : Modules → Type 0) → ((a b : Modules) → Later a → Later b → a ≡ b) → (is_named : Bool) (r s : Modules) → TurnComes p item file Later is_named r → TurnComes p item file Later is_named s → r ≡ s
-one_turn p item file Later one false r s x y = one r s x y
-one_turn p item file Later one true r s x y =
-    let this = one_file p item file x.0 y.0 x.1 y.1 in
-    goes_on_once y.0 Later one r s (subst (λ (a : Result MappedModule Coming). GoesOn a Later r) this x.2) y.2
-
-one_files : (p : ProcessView) (item : ℕ) (files : List File) (r s : Modules) → FilesCome p item files r → FilesCome p item files s → r ≡ s
-unfolding FilesCome
-one_files p item [] r s x y = x ∙ sym y
-one_files p item (file ∷ files) r s x y = one_turn p item file (FilesCome p (item + 1) files) (one_files p (item + 1) files) (is_candidate file.0 p.entries) r s x y
+one_of_each : (p : ProcessView) (files : List NumberedFile) (cs ds : List FileOutcome) → AllZip (λ (file : NumberedFile). FileComes p file.0 file.1) files cs → AllZip (λ (file : NumberedFile). FileComes p file.0 file.1) files ds → cs ≡ ds
+one_of_each p [] [] [] x y = refl
+one_of_each p [] [] (d ∷ ds) x y = absurd y
+one_of_each p [] (c ∷ cs) ds x y = absurd x
+one_of_each p (file ∷ files) [] ds x y = absurd x
+one_of_each p (file ∷ files) (c ∷ cs) [] x y = absurd y
+one_of_each p (file ∷ files) (c ∷ cs) (d ∷ ds) x y =
+    ap (λ (o : FileOutcome). o ∷ cs) (one_file p file.0 file.1 c d x.0 y.0) ∙ ap (λ (os : List FileOutcome). d ∷ os) (one_of_each p files cs ds x.1 y.1)
 
 pub one_in_process : (depth : ℕ) (files : List File) (p : ProcessView) (c d : Coming) → ProcbacktraceComesIn depth files p c → ProcbacktraceComesIn depth files p d → c ≡ d
-one_in_process depth files p c d x y = x.is ∙ ap (coming_of_files p depth) (one_files p 1 files x.modules y.modules x.come y.come) ∙ sym y.is
+one_in_process depth files p c d x y = x.is ∙ ap (coming_of_files p depth) (one_of_each p (files_named p 1 files) x.outcomes y.outcomes x.come y.come) ∙ sym y.is

@@ -17,7 +17,7 @@ use Rattle.sf_words.proofs.Limits.{few_limit, many_limit}
 use Rattle.section_commands.specs.declared.made.Made.{Made}
 use Rattle.section_commands.specs.declared.made.Outcome.{Outcome}
 use Rattle.section_commands.specs.declared.made.Outcome.TheVariants as outcome
-use Rattle.section_commands.specs.Coming.{Coming, ComesWithin, Exceeded, Makes}
+use Rattle.section_commands.specs.Coming.{Coming, ComesWithin, Exceeded, MakesNoting}
 use Rattle.section_commands.specs.Making.{ComesAs, coming_of}
 use Rattle.section_commands.proofs.Making.{comes_as}
 use Rattle.sf_run.specs.Comes.{AreItems, Comes, RefusesNothing, command_limit}
@@ -102,21 +102,21 @@ ends_from_tells (refusal.Input notice) answer command before after reads out ros
     subst (λ (s : Status). RunEnds s command before after) (sym t.0) (notice, h.0, h.1, record { files = reads; output = out; says = t.1 })
 
 -- ---- how a run ends that delivers what it made
-delivered : (answer : Status) (made : Outcome) (command : CommandWords) (section : Option (List ℕ)) (text : List ℕ) (before after : Seen) → RunComes command before.files.contents (Makes made section text)
-    → Delivered answer made ((files_of_command command).out) section text before after → RunEnds answer command before after
-delivered answer outcome.Done command section text before after comes (inl d) =
-    subst (λ (s : Status). RunEnds s command before after) (sym d.0) record { section = section; text = text; comes = comes; left = d.1 }
-delivered answer outcome.Negative command section text before after comes (inl d) =
-    subst (λ (s : Status). RunEnds s command before after) (sym d.0) record { section = section; text = text; comes = comes; left = d.1 }
-delivered answer made command section text before after comes (inr d) =
-    subst (λ (s : Status). RunEnds s command before after) (sym d.0) (made, record { section = section; text = text; comes = comes; left = d.1 })
+delivered : (answer : Status) (made : Outcome) (command : CommandWords) (section : Option (List ℕ)) (text notes : List ℕ) (before after : Seen) → RunComes command before.files.contents (MakesNoting made section text notes)
+    → Delivered answer made ((files_of_command command).out) section text notes before after → RunEnds answer command before after
+delivered answer outcome.Done command section text notes before after comes (inl d) =
+    subst (λ (s : Status). RunEnds s command before after) (sym d.0) record { section = section; text = text; notes = notes; comes = comes; left = d.1 }
+delivered answer outcome.Negative command section text notes before after comes (inl d) =
+    subst (λ (s : Status). RunEnds s command before after) (sym d.0) record { section = section; text = text; notes = notes; comes = comes; left = d.1 }
+delivered answer made command section text notes before after comes (inr d) =
+    subst (λ (s : Status). RunEnds s command before after) (sym d.0) (made, record { section = section; text = text; notes = notes; comes = comes; left = d.1 })
 
-pub ends_from_delivered : (answer : Status) (made : Outcome) (command : CommandWords) (file section : Option (List ℕ)) (text : List ℕ) (f g h : FilesSeen) (o o' e e' : SinkSeen) → file ≡ (files_of_command command).out → g ≡ f
-    → RunComes command f.contents (Makes made section text) → Delivered answer made file section text (seen g o e) (seen h o' e') → RunEnds answer command (seen f o e) (seen h o' e')
-ends_from_delivered answer made command file section text f g h o o' e e' n same comes d =
-    delivered answer made command section text (seen f o e) (seen h o' e') comes
-    (subst (λ (x : Option (List ℕ)). Delivered answer made x section text (seen f o e) (seen h o' e')) n
-    (subst (λ (k : FilesSeen). Delivered answer made file section text (seen k o e) (seen h o' e')) same d))
+pub ends_from_delivered : (answer : Status) (made : Outcome) (command : CommandWords) (file section : Option (List ℕ)) (text notes : List ℕ) (f g h : FilesSeen) (o o' e e' : SinkSeen) → file ≡ (files_of_command command).out → g ≡ f
+    → RunComes command f.contents (MakesNoting made section text notes) → Delivered answer made file section text notes (seen g o e) (seen h o' e') → RunEnds answer command (seen f o e) (seen h o' e')
+ends_from_delivered answer made command file section text notes f g h o o' e e' n same comes d =
+    delivered answer made command section text notes (seen f o e) (seen h o' e') comes
+    (subst (λ (x : Option (List ℕ)). Delivered answer made x section text notes (seen f o e) (seen h o' e')) n
+    (subst (λ (k : FilesSeen). Delivered answer made file section text notes (seen k o e) (seen h o' e')) same d))
 
 -- ---- completeness
 answers_for : (answer : Status) (command : CommandWords) (known : List (List ℕ × List ℕ)) (before after : Seen) → before.files.contents ≡ Some known → AreItems command (bytes_known known (items_of (files_of_command command)))

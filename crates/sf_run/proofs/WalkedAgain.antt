@@ -61,7 +61,7 @@ from_made objects at core depth section text e h =
 from_result : (objects : List Object) (at : ℕ) (core : List ℕ) (depth : ℕ) (section text : List ℕ) → core_check core ≡ Ok tt → (result : Result (List ReadFunction) LinkFault)
     → LinkedComesFrom (Some (arch_of core)) objects at (section_and_walks core depth) result (Makes Done (Some section) text)
     → WalkComesFrom at section core depth (section_check section at) (core_check core) (Makes Done None text)
-from_result objects at core depth section text e (Err fault) h = absurd (subst Refuses (sym h) (linking_refuses fault))
+from_result objects at core depth section text e (Err fault) h = absurd (subst Refuses (sym h) (linking_refuses None fault))
 from_result objects at core depth section text e (Ok ordered) h = from_made objects at core depth section text e h
 
 from_check : (objects : List Object) (at : ℕ) (core : List ℕ) (depth : ℕ) (section text : List ℕ) → (check : Result (Unit {0}) CoreFault) → core_check core ≡ check

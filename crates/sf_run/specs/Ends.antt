@@ -1,5 +1,5 @@
 -- How a run of a command ends: for each status what files and streams then hold, and which line was printed.
-use Rattle.std.specs.Prelude.{◌≡◌, ◌⊎◌, ℕ, List, [], Contains, Option, Some, None, IfSome, IsTrue}
+use Rattle.std.specs.Prelude.{◌≡◌, ◌⊎◌, ℕ, List, [], ◌∷◌, Contains, Option, Some, None, IfSome, IsTrue}
 use Rattle.sf_base.specs.Contents.{Unchanged, Holds, HoldsPrefix}
 use Rattle.sf_base.specs.Faults.{Rose}
 use Rattle.sf_base.specs.Seen.{FilesSeen, SinkSeen, OnlyReads}
@@ -15,7 +15,7 @@ use Rattle.sf_words.specs.declared.refusal.Refusal.TheVariants as refusal
 use Rattle.sf_words.specs.declared.loaded.Loaded.{Loaded}
 use Rattle.sf_words.specs.Loading.{AreBytesOf, AreLoaded, Contents, IsLongCore, NeedsTooMuch, bytes_known, loaded_bytes, loaded_items}
 use Rattle.sf_words.specs.Files.{item_names, items_of}
-use Rattle.section_commands.specs.Coming.{Coming, Refused, Exceeded, Makes}
+use Rattle.section_commands.specs.Coming.{Coming, Refused, Exceeded, MakesNoting}
 use Rattle.section_commands.specs.declared.made.Outcome.{Outcome}
 use Rattle.section_commands.specs.declared.made.Outcome.TheVariants as outcome
 use Rattle.section_commands.specs.Making.{ComesAs}
@@ -66,12 +66,17 @@ Stored (Some name) (Some section) before after = StoredIn name section before af
 Stored (Some name) None before after = after ≡ before
 Stored None section before after = after ≡ before
 
--- the section is stored, the text was printed, and nothing went to the errors: no call failed
-pub record Written (file section : Option (List ℕ)) (text : List ℕ) (before after : Seen) : Type 0 where
+-- the errors got these notes; without any, all that is seen of them is as before
+abbrev pub IsNoted : (notes : List ℕ) → (before after : SinkSeen) → Type 0
+IsNoted [] before after = after ≡ before
+IsNoted (byte ∷ notes) before after = Says before after (byte ∷ notes)
+
+-- the section is stored, the text was printed, and nothing but the notes went to the errors: no call of the files and the output failed
+pub record Written (file section : Option (List ℕ)) (text notes : List ℕ) (before after : Seen) : Type 0 where
   pub stored : Stored file section before.files after.files
   pub output : Appends before.out.written after.out.written text
   pub faults : after.out.faults ≡ before.out.faults
-  pub errors : after.err ≡ before.err
+  pub errors : IsNoted notes before.err after.err
 
 -- the section is stored, and a prefix of the text was printed, since the output failed
 pub record OutputFailed (file section : Option (List ℕ)) (text : List ℕ) (before after : Seen) : Type 0 where
@@ -98,25 +103,26 @@ pub record FileFailed (file section : Option (List ℕ)) (before after : Seen) :
   pub output : after.out ≡ before.out
   pub says : Says before.err after.err (file_line file)
 
--- the run comes to a section or none and a text with this outcome, and this is left of them
-pub record Leaves (command : CommandWords) (contents : Contents) (outcome : Outcome) (Left : (section : Option (List ℕ)) → (text : List ℕ) → Type 0) : Type 0 where
+-- the run comes to a section or none, a text and notes with this outcome, and this is left of them
+pub record Leaves (command : CommandWords) (contents : Contents) (outcome : Outcome) (Left : (section : Option (List ℕ)) → (text notes : List ℕ) → Type 0) : Type 0 where
   pub section : Option (List ℕ)
   pub text : List ℕ
-  pub comes : RunComes command contents (Makes outcome section text)
-  pub left : Left section text
+  pub notes : List ℕ
+  pub comes : RunComes command contents (MakesNoting outcome section text notes)
+  pub left : Left section text notes
 
 -- how a run of a command ends with each status
 abbrev pub RunEnds : Status → CommandWords → (before after : Seen) → Type 0
 RunEnds status.Done command before after =
-    Leaves command before.files.contents outcome.Done (λ section text. Written (files_of_command command).out section text before after)
+    Leaves command before.files.contents outcome.Done (λ section text notes. Written (files_of_command command).out section text notes before after)
 RunEnds status.Negative command before after =
-    Leaves command before.files.contents outcome.Negative (λ section text. Written (files_of_command command).out section text before after)
+    Leaves command before.files.contents outcome.Negative (λ section text notes. Written (files_of_command command).out section text notes before after)
 RunEnds status.Usage command before after = ⊥
 RunEnds status.Read command before after =
     (name : List ℕ) × Contains (item_names (files_of_command command)) name × TurnedAway before after (read_line name) × Rose before.files.read_faults after.files.read_faults
     × IfSome after.files.failed_name (λ failed. failed ≡ name)
 RunEnds status.Write command before after =
-    (made : Outcome) × Leaves command before.files.contents made (λ section text.
+    (made : Outcome) × Leaves command before.files.contents made (λ section text notes.
     FileFailed (files_of_command command).out section before after ⊎ OutputFailed (files_of_command command).out section text before after)
 RunEnds status.Refused command before after =
     (notice : Notice) × HasLine notice × RunComes command before.files.contents (Refused (shown_by notice)) × TurnedAway before after (fault_text notice)
@@ -183,7 +189,7 @@ Tells (refusal.Limit limit) answer before after = (answer ≡ status.Limit) × S
 Tells (refusal.Input notice) answer before after = (answer ≡ status.Refused) × Says before after (fault_text notice)
 
 -- what delivering leaves of what was made with this outcome
-abbrev pub Delivered : Status → (made : Outcome) → (file section : Option (List ℕ)) → (text : List ℕ) → (before after : Seen) → Type 0
-Delivered answer made file section text before after =
-    ((answer ≡ status_for made) × Written file section text before after)
+abbrev pub Delivered : Status → (made : Outcome) → (file section : Option (List ℕ)) → (text notes : List ℕ) → (before after : Seen) → Type 0
+Delivered answer made file section text notes before after =
+    ((answer ≡ status_for made) × Written file section text notes before after)
     ⊎ ((answer ≡ status.Write) × (FileFailed file section before after ⊎ OutputFailed file section text before after))

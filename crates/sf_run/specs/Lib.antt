@@ -11,4 +11,5 @@ pub mod Object
 pub mod Status
 pub mod Verify
 pub mod Procbacktrace
+pub mod NamedFiles
 pub mod Unrefused

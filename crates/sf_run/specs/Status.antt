@@ -26,4 +26,4 @@ status_for outcome.Negative = Negative
 abbrev pub status_of : Coming → Status
 status_of (coming.Refused shown) = Refused
 status_of (coming.Exceeded limit) = Limit
-status_of (coming.Makes outcome section text) = status_for outcome
+status_of (coming.MakesNoting outcome section text notes) = status_for outcome

@@ -51,7 +51,8 @@ pub enum Command<'a> {
     /// address at which the process had its file mapped.
     Procwalk(Procwalk<'a>),
     /// `procbacktrace CORE DEPTH FILE ..` prints the stacks with the call frame information of each file, also through signal
-    /// handlers. A FILE that the process had not mapped is passed over.
+    /// handlers. A FILE that the process had not mapped is skipped. One that can't be used is passed, with a line on standard
+    /// error: the walks stop in it.
     Procbacktrace(Procwalk<'a>),
     /// `gen N` tests itself on a generated object of N functions. It links the object, and prints a summary. No file is
     /// needed.

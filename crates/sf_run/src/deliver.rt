@@ -1,18 +1,18 @@
-//! Writing what is made: first the section, then the text.
+//! Writing what is made: first the section, then the text, and then the notes on it.
 
 ghost use Rattle.std.specs.Prelude.{◌≡◌, ◌⊎◌, IfSome, IsSome, IsTrue, OnOk, OnErr};
 ghost use Rattle.std.specs.Option.{option_map};
 ghost use Rattle.sf_base.specs.Contents.{Unchanged, HoldsPrefix};
 ghost use Rattle.sf_base.specs.Faults.{Cause};
-ghost use Rattle.sf_text.specs.Output.{output_text};
-ghost use Rattle.sf_run.specs.Ends.{Delivered, Stored, StoredIn, StoredPart, file_line, seen};
+ghost use Rattle.sf_text.specs.Output.{output_notes, output_text};
+ghost use Rattle.sf_run.specs.Ends.{Delivered, IsNoted, Stored, StoredIn, StoredPart, file_line, seen};
 ghost use Rattle.sf_run.specs.Lines.{Says};
 
-use crate::lines::{print_line, print_name};
+use crate::lines::{print_line, print_lines, print_name};
 use crate::status::Status;
 use section_commands::Made;
 use sf_base::{Failed, Files, Sink, put_file};
-use sf_text::put_output;
+use sf_text::{Output, put_output};
 
 /// Creates the file and writes the bytes.
 fn store<F: Files>(files: &mut F, name: &str, bytes: &[u8]) -> Result<(), Failed>
@@ -55,8 +55,20 @@ fn print_file<E: Sink>(file: Option<&str>, err: &mut E)
     }
 }
 
-/// Writes the section to its file, if there is one, and then the text to the output. If one of them fails, a line
-/// is printed for it.
+/// Prints what is noted, if anything is.
+fn print_notes<E: Sink>(output: &Output<'_>, err: &mut E)
+    ensures { IsNoted (output_notes output.now) (E.seen err.old) (E.seen err.new) }
+{
+    let Output::Noted { notes, .. } = output else {
+        return;
+    };
+    if !notes.is_empty() {
+        print_lines(err, notes);
+    }
+}
+
+/// Writes the section to its file, if there is one, then the text to the output, and then the notes to the errors. If the
+/// section or the text fails, a line is printed for it, and nothing is noted.
 pub fn deliver<F: Files, O: Sink, E: Sink>(
     file: Option<&str>,
     made: &Made<'_>,
@@ -65,7 +77,7 @@ pub fn deliver<F: Files, O: Sink, E: Sink>(
     err: &mut E,
 ) -> Status
     requires { IfSome file (λ name. IsTrue (F.may_create files.old name.now)) }
-    ensures { Delivered result made.now.outcome (option_map (λ name. name.now) file.entry) (option_map (λ v. v.items) made.now.section) (output_text made.now.output)
+    ensures { Delivered result made.now.outcome (option_map (λ name. name.now) file.entry) (option_map (λ v. v.items) made.now.section) (output_text made.now.output) (output_notes made.now.output)
         (seen (F.seen files.old) (O.seen out.old) (E.seen err.old)) (seen (F.seen files.new) (O.seen out.new) (E.seen err.new)) }
 {
     if store_made(files, file, &made.section).is_err() {
@@ -76,5 +88,6 @@ pub fn deliver<F: Files, O: Sink, E: Sink>(
         print_line(err, "write output");
         return Status::Write;
     }
+    print_notes(&made.output, err);
     Status::of(made.outcome)
 }

@@ -19,6 +19,7 @@ mod laws;
 mod lines;
 mod link;
 mod linked;
+mod named_files;
 mod object;
 mod procbacktrace;
 mod refusing;

@@ -35,6 +35,13 @@ pub fn print_line<S: Sink>(sink: &mut S, text: &str)
     let _ = put_line(sink, text);
 }
 
+/// Writes lines. If the sink fails, it got a prefix of them.
+pub fn print_lines<S: Sink>(sink: &mut S, lines: &[u8])
+    ensures { Says (S.seen sink.old) (S.seen sink.new) lines.now }
+{
+    let _ = put_all(sink, lines);
+}
+
 /// Writes one line that ends with a name, in which control characters are shown as `\xNN`, byte by byte.
 pub fn print_name<S: Sink>(sink: &mut S, front: &str, name: &str)
     ensures { Says (S.seen sink.old) (S.seen sink.new) (line (front.now ++ shown_name name.now)) }

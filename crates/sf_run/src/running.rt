@@ -182,7 +182,7 @@ fn run_command<F: Files, O: Sink, E: Sink>(
 }
 
 /// Runs the command that the words ask for, and returns how it ended. On the statuses from 2 on one line goes
-/// to `err`, whose faults change nothing.
+/// to `err`, and on 0 what is noted: the files that `procbacktrace` passes. Faults of `err` change nothing.
 ///
 /// The caller permits what may be opened or created: what the words name, of a command with at most 512 files.
 /// So nothing else is; and where the words have no form, or name more files, no name is opened or created at all.

@@ -3,8 +3,8 @@ use Rattle.elf_mapped.specs.Program.{all_bytes}
 use Rattle.sf_modules.specs.Process.{process_view}
 use Rattle.process_tables.specs.declared.table.TableFault.{TableFault}
 use Rattle.process_tables.specs.Views.{IsTableFault}
-use Rattle.sf_run.proofs.FilesTabled.{unlinked_comes}
-use Rattle.sf_run.proofs.procbacktrace.table_of.Goals as goal
+use Rattle.sf_run.proofs.FilesRead.{unlinked_comes}
+use Rattle.sf_run.proofs.named_files.table_of.Goals as goal
 
 pub returns-in-Ok-clause-made : goal.returns-in-Ok-clause-made
 returns-in-Ok-clause-made c = let made = c.in-Ok.ensures.table in (made.0, record { checked = c.in-Ok.ensures.found; is = made.1 }, made.2)

@@ -19,7 +19,7 @@ pub returns-in-Ok-clause-ends : goal.returns-in-Ok-clause-ends
 returns-in-Ok-clause-ends g c =
     let contents = (g.F.Files.seen c.args.files.now).contents in
     let command = words_of c.args.command.now in
-    ends_from_delivered c.deliver.result c.in-Ok.made.outcome command _ _ _ _ _ _ _ _ _ _ (ap (λ (files : FilesWords). files.out) c.requires.named) refl
+    ends_from_delivered c.deliver.result c.in-Ok.made.outcome command _ _ _ _ _ _ _ _ _ _ _ (ap (λ (files : FilesWords). files.out) c.requires.named) refl
     (made_runs command contents (loaded_bytes c.args.loaded.now) c.requires.loaded.bytes c.in-Ok.made c.in-Ok.ensures.comes) c.deliver.ensures
 
 pub returns-in-Err-Refused-clause-ends : goal.returns-in-Err-Refused-clause-ends
