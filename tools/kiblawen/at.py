@@ -6,6 +6,8 @@
 The status is 1 if the file has none.
 """
 
+import os
+
 from kiblawen import common, elf
 
 
@@ -14,6 +16,8 @@ def main(words):
     parser.add_argument("--build-id", action="store_true")
     parser.add_argument("file", metavar="FILE")
     given = parser.parse_args(words)
+    if not os.path.exists(given.file):
+        common.fail(__name__, f"there is no {given.file}")
     if elf.machine(given.file) is None:
         common.fail(__name__, f"{given.file} is no ELF file for AMD64 or AArch64")
     if given.build_id:
