@@ -304,6 +304,8 @@ END
     cmp "$out/both" "$out/merged" || fail 'the two sections differ'
     say '   The linked and the merged section are the same, byte for byte. The shortest that says the same, with the bytes before and after:'
     tool slim "$out/slimmed@0x10000" "$out/merged@0x10000" || fail 'the section was not shortened'
+    say '   In Version 3, which GNU binutils read from 2.46 on:'
+    tool upgrade "$out/version3@0x10000" "$out/slimmed@0x10000" || fail 'the section of Version 3 was not written'
 
     say
     say '8. A program that aborts some calls deep: the stack in its core file, walked with its section'
