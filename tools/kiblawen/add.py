@@ -19,6 +19,7 @@ some are refused or failed, 2 if the arguments are wrong.
 import argparse
 import collections
 import concurrent.futures
+import errno
 import os
 import shutil
 import struct
@@ -64,7 +65,8 @@ def below(top, lost):
 
 def named(path, word, lost):
     """The file that a word names, if it is a program or shared object."""
-    here, why = None, "no program or shared object for AMD64 or AArch64"
+    why = "no program or shared object for AMD64 or AArch64" if os.path.exists(path) else os.strerror(errno.ENOENT)
+    here = None
     try:
         with replacing.folder_of(path) as folder:
             here = look(folder, os.path.basename(path))
