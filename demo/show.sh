@@ -259,8 +259,8 @@ END
     say
     say "5. Look-up of $pc, in the middle of the function $name, which has saved its frame pointer there"
     tool lookup "$out/sframe@$at" "$pc" || fail 'no row holds there'
-    say "   cfa is the canonical frame address (CFA): what the stack pointer was before the call. fp is where the caller's frame"
-    say '   pointer lies. The return address lies at CFA-8 on AMD64, and on AArch64 where ra says.'
+    say "   cfa is the canonical frame address (CFA), which is the caller's stack pointer. fp says where the caller's frame pointer is"
+    say '   saved. The return address is at CFA-8 on AMD64; on AArch64 ra says where.'
 fi
 
 walked=
@@ -302,7 +302,7 @@ END
     tool link "$out/other.sframe@0x20000" "$out/other.o@0x2000" || fail 'the object was not linked'
     tool merge "$out/merged@0x10000" "$out/object.sframe@0x10000" "$out/other.sframe@0x20000" || fail 'the sections were not merged'
     cmp "$out/both" "$out/merged" || fail 'the two sections differ'
-    say '   The linked and the merged section are the same, byte for byte. The shortest that says the same, with the bytes before and after:'
+    say '   The linked and the merged section are the same, byte for byte. The shortest equivalent, with the bytes before and after:'
     tool slim "$out/slimmed@0x10000" "$out/merged@0x10000" || fail 'the section was not shortened'
     say '   In Version 3, which GNU binutils read from 2.46 on:'
     tool upgrade "$out/version3@0x10000" "$out/slimmed@0x10000" || fail 'the section of Version 3 was not written'
