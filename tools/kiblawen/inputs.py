@@ -751,7 +751,7 @@ def loads_and_notes_of_a_module(size):
 
 
 def process_with_a_short_identifier(size):
-    """A file with a build identifier of four bytes, which the core file has at the end of a segment; and much memory that nothing needs."""
+    """A file with a build identifier of four bytes, which the core file has at a segment's end; and much memory that nothing needs."""
     place, build, last = 64 + 56 * 3, note(NT_GNU_BUILD_ID, bytes([1, 2, 3, 4]), b"GNU\0"), 1 << 40
     segments = [(kind, 4, place, last, len(build), len(build)) for kind in (PT_LOAD, PT_NOTE)]
     entries = [OWN, (last - place % 4096, last + 4096, b"m", place // 4096)]
