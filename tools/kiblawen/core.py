@@ -131,11 +131,11 @@ def module_for(core, given, mapping):
 
 
 def mapped_names(core):
-    """The names of the mapped files with code, each with its first mapping: that of its header, where it is there."""
-    code, found = core.names_with_code(), {}
+    """The names of the mapped files with code, or one more than are tried, each with its first mapping: that of its header, where it is there."""
+    code, found = core.names_with_code(MOST_NAMES + 1), {}
     for it in core.mappings:
-        name, offset = it[3], it[2]
-        if name in code and (name not in found or offset == 0 < found[name][2]):
+        name = it[3]
+        if name in code and (name not in found or it[2] == 0 < found[name][2]):
             found[name] = it
     return found
 
@@ -155,7 +155,7 @@ def find_modules(core, given):
                 continue
             print(common.shown(f"unused {text_of(name)}: {why}"), file=sys.stderr)
     if len(named) > MOST_NAMES:
-        print(f"unused {len(named) - MOST_NAMES} more files: the core file has more than {MOST_NAMES}", file=sys.stderr)
+        print(f"unused other files: the core file has more than {MOST_NAMES}", file=sys.stderr)
     return modules
 
 

@@ -90,19 +90,17 @@ class Core:
         at = bisect.bisect_right(self.mapping_starts, address) - 1
         return Mapping(*self.mappings[at]) if at >= 0 and address < self.mappings[at][1] else None
 
-    def names_with_code(self):
-        """The names of the files that have a mapping with an address of a segment with code, or with none of any segment: gdb omits those that
-        nothing has changed."""
+    def names_with_code(self, most):
+        """The names of the first files, up to a number, that have a mapping with an address of a segment with code, or with none of any segment: gdb
+        omits those that nothing has changed."""
         names, after = set(), bisect.bisect_right
         code, code_ends, ends = self.code, [end for _, end in self.code], [it.start + it.size for it in self.loads]
         for start, end, _, name in self.mappings:
-            at = after(code_ends, start)
-            if at < len(code) and code[at][0] < end:
+            at, place = after(code_ends, start), after(self.starts, start) - 1
+            if at < len(code) and code[at][0] < end or place < 0 or ends[place] <= start:
                 names.add(name)
-                continue
-            place = after(self.starts, start) - 1
-            if place < 0 or ends[place] <= start:
-                names.add(name)
+                if len(names) == most:
+                    break
         return names
 
     def is_elf(self, mapping):
