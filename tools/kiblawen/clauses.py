@@ -216,5 +216,5 @@ def main(words):
     unknown = [it for it in given.crates if it not in definitions.crates()]
     if unknown:
         common.fail(__name__, f"no crate has the name {unknown[0]}")
-    common.print_text("\n".join(line for crate in given.crates for line in section(crate)) if given.crates else page().rstrip("\n"))
+    common.say("\n".join(line for crate in given.crates for line in section(crate)) if given.crates else page().rstrip("\n"))
     return 0

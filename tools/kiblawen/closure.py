@@ -194,7 +194,7 @@ def show(found, definitions):
 def main(words):
     found = Definitions()
     if not words:
-        common.print_text(table(found))
+        common.say(table(found))
     elif words[:1] == ["--list"] and len(words) == 2 and words[1] in rows(found):
         show(found, sorted(found.below(rows(found)[words[1]])))
     elif words == ["--unreached"]:

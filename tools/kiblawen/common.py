@@ -2,7 +2,6 @@
 
 import argparse
 import os
-import signal
 import subprocess
 import sys
 
@@ -70,12 +69,6 @@ def shown(text):
 
 def escaped(character):
     return "".join(f"\\x{byte:02x}" for byte in character.encode("utf-8", "surrogateescape"))
-
-
-def print_text(text):
-    """Prints a text, whose reader may end early."""
-    signal.signal(signal.SIGPIPE, signal.SIG_DFL)
-    print(text)
 
 
 def become(*words):

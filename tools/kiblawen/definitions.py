@@ -221,5 +221,5 @@ def main(words):
         for it in wrong:
             print(f"./x definitions: {it}", file=sys.stderr)
         return int(bool(wrong))
-    common.print_text("\n".join(entries(given.names)) if given.names else page().rstrip("\n"))
+    common.say("\n".join(entries(given.names)) if given.names else page().rstrip("\n"))
     return 0
