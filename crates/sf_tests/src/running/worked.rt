@@ -28,9 +28,9 @@ pub const WORKED: &str = "
     walk s@0x3000 c 64; s=function-section; c=core 64 112 356; c=core 64 112 356 32 => none
     backtrace o@0x3000 c 64 eh-amd64:e@0x2000; c=core 64 112 356; e=function; c=core 64 112 356 32 => function-section
     # Also the first thread's stack, and the beginning of `/bin/a`. The file has no call frame information, so it is read again, whole.
-    procwalk c 64 a; c=mapped-core 64 168 780 32 8; a=module 64 192 19; a=module => none
+    procwalk c 64 a; c=mapped-core 64 168 780 40; a=module 64 192 19; a=module => none
     # The file header, the section headers, their names, the call frame information, and the program header.
-    procbacktrace c 64 a; c=mapped-core 64 168 780 32 8; a=calls 64 192 21 92 56 => none
+    procbacktrace c 64 a; c=mapped-core 64 168 780 40; a=calls 64 192 21 92 56 => none
     # The same without the program header.
     link o@0x3000 l@0x0; l=linked 64 192 21 60 => function-section
 ";
