@@ -265,11 +265,11 @@ struct kiblawen_module_frame {
 };
 
 /*
- * Walks on from a state, with the memory and the mask of a sample, whose registers are not read. It lists the frames of
- * kiblawen_walk_modules, and more where that stops
- * - at a frame pointer that can't be read, as at a `ret` after `leave` or `pop`: it is unknown from there on. The walk
- *   stops (unreadable) only at a row that counts from it, with the address where it was to be read;
- * - at a signed row without a mask: a return address below 2^48 is taken as it is, others stop the walk (signed).
+ * Walks on from a state, with the memory and mask of a sample, whose registers are not read. It lists the first frames of
+ * the walk by the whole memory: the frames of kiblawen_walk_modules, and more where that stops
+ * - at a frame pointer that can't be read, as at a `ret` after `leave` or `pop`: the walk stops (unreadable) only at a row
+ *   that counts from it, with the address where it is saved;
+ * - at a signed row without a mask: a return address below 2^48 is taken as it is, others stop it (signed).
  *
  * Writes at most `room` frames, the state's own first, and why the walk stopped. Returns the number of frames; the rest of
  * `frames` is unchanged. Writes the next frame's state if the room is full, else the last frame's: a walk of n frames and one

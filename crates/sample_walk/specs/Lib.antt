@@ -3,3 +3,4 @@ pub mod Step
 pub mod Onward
 pub mod Cache
 pub mod Room
+pub mod PartWalk

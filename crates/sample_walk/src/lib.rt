@@ -6,6 +6,8 @@
 //! gives the state where it ends. A [`CacheEntry`] keeps what was found at an address; a walk lists the same frames with
 //! any cache that is right, and without one.
 //!
+//! A walk by a part of a memory, as by the copy of a stack, lists the first frames of the walk by the whole memory.
+//!
 //! The laws over `walk_on` of `specs/` are functions that do nothing: a walk of n + m frames is one of n frames and then
 //! one of m from its state, and a walk lists what `look_up_walk` of `sf_model` lists, and goes on where that stops at a
 //! value that can't be read, or without a mask at a return address in the address space.
@@ -24,7 +26,7 @@ mod stepping;
 mod walking;
 
 pub use cache::{CacheEntry, clear, locate};
-pub use laws::{goes_on_from_its_state, goes_on_past_stops};
+pub use laws::{goes_on_from_its_state, goes_on_past_stops, lists_first_frames};
 pub use modules::{Located, Modules};
 pub use rule::{Rule, rule_of};
 pub use signature::in_address_space;

@@ -1,9 +1,10 @@
 //! A walk from a state, into an array of the caller's.
 
-ghost use Rattle.std.specs.Prelude.{◌≡◌, length};
+ghost use Rattle.std.specs.Prelude.{◌≡◌, length, take};
 ghost use Rattle.sample_walk.specs.Cache.{AreRight};
 ghost use Rattle.sample_walk.specs.Onward.{stepping};
 ghost use Rattle.sample_walk.specs.Onward as spec;
+ghost use Rattle.sample_walk.specs.PartWalk.{AreFirstByEachWhole};
 ghost use Rattle.sample_walk.specs.Room.{walk_end, module_frame, places_listed};
 
 use crate::cache::{CacheEntry, locate};
@@ -47,8 +48,9 @@ fn module_frame(frame: &Frame, index: usize) -> ModuleFrame
     }
 }
 
-/// Lists the frames of a walk from a state on, as many as there is room for, and returns how the walk ended. The cache
-/// is right for the modules; one of no entries keeps nothing.
+/// Lists the frames of a walk from a state on, as many as there is room for, and returns how the walk ended. They are the
+/// first frames of the walk by each memory that this one is a part of. The cache is right for the modules; one of no
+/// entries keeps nothing.
 pub fn walk_on<L: Modules, M: Memory>(
     modules: &L,
     cache: &mut [CacheEntry],
@@ -61,6 +63,7 @@ pub fn walk_on<L: Modules, M: Memory>(
     ensures cache { AreRight (L.row_at modules.now) (L.index_at modules.now) cache.new }
     ensures frames { frames.new ≡ places_listed (L.index_at modules.now) (spec.walk_on (stepping (L.row_at modules.now) mask (M.regions mem.now)) (length frames.old) start).places frames.old }
     ensures ended { result ≡ walk_end (spec.walk_on (stepping (L.row_at modules.now) mask (M.regions mem.now)) (length frames.old) start) }
+    ensures first { AreFirstByEachWhole (L.row_at modules.now) mask (M.regions mem.now) start (take result.count frames.new) }
 {
     let mut at = start;
     for count in 0..frames.len() {

@@ -1,11 +1,13 @@
 //! Walks that go on, by modules in any order and a cache.
 
-ghost use Rattle.std.specs.Prelude.{◌≡◌, length, ℕ};
+ghost use Rattle.std.specs.Prelude.{◌≡◌, length, take, ℕ};
 ghost use Rattle.sf_model.specs.Walk.{LookUp};
 ghost use Rattle.sample_walk.specs.Cache.{AreRight};
+ghost use Rattle.sample_walk.specs.PartWalk.{AreFirstByEachWhole};
 ghost use Rattle.sample_walk.specs.Room.{places_listed};
 ghost use Rattle.sf_c.specs.Modules.{module_row};
 ghost use Rattle.sf_c.specs.Order.{IsIndex, index_in};
+ghost use Rattle.sf_c.specs.Sample.{mask_of, stack_memory};
 ghost use Rattle.sf_c.specs.WalkOn as spec;
 
 use crate::finding::flag;
@@ -90,9 +92,10 @@ pub extern "C" fn kiblawen_cache_clear(cache: &mut [CacheEntry])
 }
 
 /// Walks on from a state, by a sample's memory and mask and the sections of modules: lists the frames from the state's own
-/// on, each with the index of its module, as many as there is room for, and returns how many they are. The state where
-/// the walk ends is written to `state`, and why it stopped to `stop`. The caller owes that the modules have an index, and
-/// that the cache is right for them; one of no entries keeps nothing.
+/// on, each with the index of its module, as many as there is room for, and returns how many they are. They are the first
+/// frames of the walk by each memory that the sample's is a part of. The state where the walk ends is written to `state`,
+/// and why it stopped to `stop`. The caller owes that the modules have an index, and that the cache is right for them;
+/// one of no entries keeps nothing.
 #[unsafe(no_mangle)]
 pub extern "C" fn kiblawen_walk_on(
     modules: &KiblawenModules<'_>,
@@ -109,6 +112,7 @@ pub extern "C" fn kiblawen_walk_on(
     ensures count { result ≡ length (spec.sample_walk_on (module_row modules.now.modules.now) sample.now (length frames.old) (spec.state_in state.old)).places }
     ensures stop { stop.new ≡ spec.end_shown (spec.sample_walk_on (module_row modules.now.modules.now) sample.now (length frames.old) (spec.state_in state.old)).stop }
     ensures state { spec.state_in state.new ≡ (spec.sample_walk_on (module_row modules.now.modules.now) sample.now (length frames.old) (spec.state_in state.old)).at }
+    ensures first { AreFirstByEachWhole (module_row modules.now.modules.now) (mask_of sample.now) (stack_memory sample.now) (spec.state_in state.old) (take result frames.new) }
 {
     let start = state_in(state);
     let indexed = IndexedModules {
