@@ -100,6 +100,7 @@ INPUTS = {
     "rows_of_one_record": USUAL,
     "merged_sections": USUAL,
     "merge_of_shared_rows": USUAL,
+    "merge_of_one_section_again": USUAL,
     "dump_of_shared_rows": PRINTED,
     "slim_of_shared_rows": USUAL,
     "merge_of_all_rows": USUAL,

@@ -342,6 +342,13 @@ def merge_of_shared_rows(size):
     return ["merge", "OUT@0x50000000", "IN@0x40000000"], {"IN": shared_rows(size)}
 
 
+def merge_of_one_section_again(size):
+    """A section with all the rows that it may hold, 8192 that 2048 functions share, given again and again: the second time exceeds the limit."""
+    rows = b"".join(struct.pack("<HBb", at, 3, 8) for at in range(8192))
+    full = section([(0x1000 + 8192 * at, 8192, 0, 8192) for at in range(2048)], rows, 5, 1)
+    return ["merge", "OUT@0x50000000"] + ["IN@0x40000000"] * min(512, size // len(full)), {"IN": full}
+
+
 def dump_of_shared_rows(size):
     return ["dump", "IN@0x40000000"], {"IN": shared_rows(size)}
 

@@ -1,6 +1,7 @@
 pub mod Coming
 pub mod Making
 pub mod FirstFault
+pub mod Limits
 pub mod SectionComes
 pub mod Walks
 pub mod Dump

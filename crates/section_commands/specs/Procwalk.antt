@@ -5,7 +5,6 @@ use Rattle.std.specs.Option.{option_map}
 use Rattle.std.specs.String.{string_bytes}
 use Rattle.sf_base.specs.Word.{SpellsDecimal}
 use Rattle.sf_model.specs.declared.machine.Arch.{Arch}
-use Rattle.sf_model.specs.Table.{Table}
 use Rattle.elf_read.specs.Header.{arch_of}
 use Rattle.core_notes.specs.Checks.{core_check, file_threads}
 use Rattle.core_notes.specs.Memory.{file_regions}
@@ -17,12 +16,8 @@ use Rattle.sf_modules.specs.Module.{IsModule, ModuleView}
 use Rattle.sf_modules.specs.Process.{ProcessView}
 use Rattle.sf_modules.specs.Reading.{module_check}
 use Rattle.sf_modules.specs.Union.{tables_of}
-use Rattle.sf_functions.specs.declared.limits.Limit.{Limit as CountLimit}
-use Rattle.sf_functions.specs.declared.limits.Limit.TheVariants.{Functions, Rows}
-use Rattle.sf_functions.specs.Limits.{exceeded}
-use Rattle.sf_merge.specs.Merging.{functions_in_all, rows_in_all, same_arch}
+use Rattle.sf_merge.specs.Merging.{same_arch}
 use Rattle.sf_words.specs.declared.refusal.Limit.{Limit}
-use Rattle.sf_words.specs.declared.refusal.Limit.TheVariants as limits
 use Rattle.sf_words.specs.Files.{FilesWords}
 use Rattle.sf_words.specs.Forms.{IsDepth}
 use Rattle.sf_words.specs.Items as item
@@ -30,6 +25,7 @@ use Rattle.section_commands.specs.declared.procwalk.Procwalk.{Procwalk}
 use Rattle.section_commands.specs.declared.made.Outcome.TheVariants.{Done}
 use Rattle.section_commands.specs.Coming.{Coming, Exceeded, Makes, Refused}
 use Rattle.section_commands.specs.FirstFault.{first_failing}
+pub use Rattle.section_commands.specs.Limits.{sums_limit}
 use Rattle.section_commands.specs.Process.{File, ProcessComes, coming_of_module}
 use Rattle.section_commands.specs.Walks.{shown_of_mixed, walks_text}
 
@@ -77,15 +73,6 @@ is_for_another arch m = not (same_arch arch m.machine && same_arch arch m.table.
 -- the item of the first module whose file or section is for another machine
 abbrev pub mixed_item : Arch → List ModuleView → Option ℕ
 mixed_item arch modules = option_map (λ (k : ℕ). k + 1) (position (is_for_another arch) modules)
-
--- a limit of functions and rows, as a limit of the run
-abbrev pub run_limit : CountLimit → Limit
-run_limit Functions = limits.Functions
-run_limit Rows = limits.Rows
-
--- the limit that the functions or the rows of all sections together exceed
-abbrev pub sums_limit : List Table → Option Limit
-sums_limit tables = option_map run_limit (exceeded (functions_in_all tables) (rows_in_all tables))
 
 -- ---- the walks
 -- the walks of all threads of a core file by the rows of modules, with the file's memory, each of at most `depth` frames

@@ -8,6 +8,7 @@
 
 mod dump;
 mod laws;
+mod limits;
 mod lookup;
 mod made;
 mod merge;

@@ -1,7 +1,7 @@
 //! `merge OUT@AT FILE@AT ..`: the union of sections.
 
 ghost use Rattle.std.specs.Prelude.{◌≡◌, ◌≤◌, List, ℕ, None, length, map, IfOk, IfErr, IfSome, IsSomeAnd};
-ghost use Rattle.std.specs.List.{AllZip, zip};
+ghost use Rattle.std.specs.List.{zip};
 ghost use Rattle.std.specs.String.{string_bytes};
 ghost use Rattle.sf_decode.specs.View.{table_of};
 ghost use Rattle.sf_words.specs.Files.{files_of, items_of};
@@ -10,8 +10,9 @@ ghost use Rattle.sf_words.specs.Loading.{files_limit, loaded_bytes, loaded_items
 ghost use Rattle.sf_words.specs.Named.{named_sections};
 ghost use Rattle.section_commands.specs.Coming.{Coming};
 ghost use Rattle.section_commands.specs.Making.{ComesAs, ComesTo};
-ghost use Rattle.section_commands.specs.Merge.{IsMerge, IsSectionOf, MergeComes, MergeComesAt, MergeWords, coming_of_merging, merge_files, merge_of, first_unsound_section};
+ghost use Rattle.section_commands.specs.Merge.{AreWithin, IsMerge, MergeComes, MergeWords, ReadingStops, coming_of_merging, merge_files, merge_of};
 
+use crate::limits::exceeded_limit;
 use crate::made::{Made, Outcome};
 use crate::section::undecoded;
 use sf_decode::View;
@@ -44,7 +45,7 @@ fn unmerged<'a>(fault: MergeFault) -> Refusal<'a>
     }
 }
 
-/// Returns the sections of these bytes, in order.
+/// Returns the sections of these bytes, in order. The limits are checked after each section, before the next is read.
 fn views_of<'a, 'm>(
     alloc: Global,
     sections: NamedSections<'_>,
@@ -53,20 +54,27 @@ fn views_of<'a, 'm>(
     requires items { loaded_items loaded.now ≡ map Section (named_sections sections) }
     requires few { length (named_sections sections) ≤ 512 }
     ensures count { IfOk result (λ views. length views.items ≡ length loaded.now) }
-    ensures checked { IfOk result (λ _. first_unsound_section (zip (named_sections sections.entry) (loaded_bytes loaded.now)) ≡ None) }
-    ensures are { IfOk result (λ views. AllZip IsSectionOf (zip (named_sections sections.entry) (loaded_bytes loaded.now)) (map table_of views.items)) }
-    ensures refused { IfErr result (λ refused. (at : ℕ) → ComesAs (MergeComesAt at (zip (named_sections sections.entry) (loaded_bytes loaded.now)) (first_unsound_section (zip (named_sections sections.entry) (loaded_bytes loaded.now)))) refused) }
+    ensures are { IfOk result (λ views. AreWithin (zip (named_sections sections.entry) (loaded_bytes loaded.now)) (map table_of views.items)) }
+    ensures stops { IfErr result (ComesAs (ReadingStops (zip (named_sections sections.entry) (loaded_bytes loaded.now)))) }
 {
     let mut views: Vec<View<'m>> = Vec::new(alloc);
+    let mut functions = 0;
+    let mut rows = 0;
     for file in loaded {
         let Item::Section(section) = file.item else {
             unreachable!();
         };
         let item = views.len() as u32;
-        match View::parse(file.bytes(), section.at) {
-            Ok(view) => views.push(view)?,
+        let view = match View::parse(file.bytes(), section.at) {
+            Ok(view) => view,
             Err(fault) => return Err(undecoded(fault, item)),
+        };
+        functions += view.len() as usize;
+        rows += view.row_count() as usize;
+        if let Some(limit) = exceeded_limit(functions, rows) {
+            return Err(Refusal::Limit(limit));
         }
+        views.push(view)?;
     }
     Ok(views)
 }

@@ -21,11 +21,11 @@ ghost use Rattle.section_commands.specs.Procwalk as spec;
 ghost use Rattle.section_commands.specs.Process.{IsFinalFault, ProcessComes, coming_of_module};
 ghost use Rattle.section_commands.specs.Procwalk.{FilesCome, IsModuleOf, NameProcess, ProcwalkComes, ProcwalkComesIn, ProcwalkWords, coming_of_modules, files_fault, modules_walks, procwalk_files, procwalk_of};
 
+use crate::limits::exceeded_limit;
 use crate::made::{Made, Outcome, Unmade};
 use crate::walks::{mixed, same_machine, unread_core, walks_text};
 use core_parts::{CoreInput, CoreRead};
 use sf_decode::DecodeFault;
-use sf_functions::exceeded;
 use sf_model::Arch;
 use sf_modules::{
     Entry, Module, ModuleFault, Modules, Process, ReadFile, entries, read_module_once,
@@ -165,16 +165,6 @@ fn mixed_item(arch: Arch, modules: &[Module<'_, '_>]) -> Option<u32>
     Some(place as u32 + 1)
 }
 
-/// Returns a limit of functions and rows as a limit of the run.
-fn run_limit(limit: sf_functions::Limit) -> Limit
-    ensures { result ≡ spec.run_limit limit }
-{
-    match limit {
-        sf_functions::Limit::Functions => Limit::Functions,
-        sf_functions::Limit::Rows => Limit::Rows,
-    }
-}
-
 /// Returns the limit that the sections of all modules exceed together.
 pub fn sums_limit(modules: &[Module<'_, '_>]) -> Option<Limit>
     requires { length modules.now ≤ 512 }
@@ -186,10 +176,7 @@ pub fn sums_limit(modules: &[Module<'_, '_>]) -> Option<Limit>
         functions += mapped.view.len() as usize;
         rows += mapped.view.row_count() as usize;
     }
-    match exceeded(functions, rows) {
-        Some(limit) => Some(run_limit(limit)),
-        None => None,
-    }
+    exceeded_limit(functions, rows)
 }
 
 /// Returns the walks of a core file's threads by modules, if they are for its machine and within the limits.

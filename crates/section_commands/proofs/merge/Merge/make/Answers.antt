@@ -7,6 +7,7 @@ use Rattle.sf_words.specs.Named.{named_sections}
 use Rattle.sf_words.proofs.Limits.{within_limits}
 use Rattle.section_commands.specs.Merge.{merge_files, merge_of}
 use Rattle.section_commands.proofs.Lists.{as_many}
+use Rattle.section_commands.proofs.Merged.{stopped_comes}
 use Rattle.section_commands.proofs.MergeComes.{some_sections}
 use Rattle.section_commands.proofs.merge.Merge.make.Goals as goal
 
@@ -20,7 +21,7 @@ views_of-requires-clause-few c =
 pub returns-in_err-views : goal.returns-in_err-views
 returns-in_err-views c =
     let p = err_from_is_err_and c.from_residual.result c.from_residual.ensures.1 in
-    record { comes = rw (p.1, p.2) (c.in_err-views.ensures.refused c.args.self.now.out.at) }
+    record { comes = rw (p.1, p.2) (stopped_comes c.args.self.now.out.at _ _ c.in_err-views.ensures.stops) }
 
 pub merge-requires-clause-some : goal.merge-requires-clause-some
 merge-requires-clause-some c =
